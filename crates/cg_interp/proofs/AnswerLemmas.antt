@@ -18,7 +18,7 @@ use Rattle.cg_machine.specs.Effects.{Effect, Changes as ChangesEffect, Calls as 
 use Rattle.cg_machine.specs.Refusals.{no_memory}
 use Rattle.cg_machine.specs.Commands.{effect, refused, without_commands, new_collection, Explanation, DoesEffect, CommandStep}
 use Rattle.cg_represents.proofs.CommandLaws.{Each, Leaves, LeavesStack}
-use Rattle.cg_represents.proofs.Shapes.{Shape, StartsFrame, StartsCollection, Ends, by_shape}
+use Rattle.cg_represents.proofs.Shapes.{Shape, StartsFrame, by_shape}
 use Rattle.cg_laws.proofs.ShapeLaws.{effect_leaves}
 use Rattle.cg_policy.specs.Policy.{Policy}
 use Rattle.cg_policy.specs.Laws.{policy_of}
@@ -61,21 +61,10 @@ module _ (script : Script) (w : World) (r : Result Effect ℕ) where
   by_memory lines given_up after is = subst (λ q. DoesEffect script w q (refused no_memory w).0 (refused no_memory w).1) (sym is) (inr (refl, (refl, refl)))
 
   pub refusal_may : (refusal : Refusal) → Refuses refusal r → DoesEffect script w r (refused (number_of refusal) w).0 (refused (number_of refusal) w).1
-  refusal_may refusal_of.NoName h = by_refusal _ h
-  refusal_may refusal_of.WrongKind h = by_refusal _ h
-  refusal_may refusal_of.NoIndex h = by_refusal _ h
-  refusal_may refusal_of.NoKey h = by_refusal _ h
-  refusal_may refusal_of.NoAttribute h = by_refusal _ h
-  refusal_may refusal_of.NotWeak h = by_refusal _ h
-  refusal_may refusal_of.NotCallable h = by_refusal _ h
-  refusal_may refusal_of.BadGeneration h = by_refusal _ h
-  refusal_may refusal_of.Unhashable h = by_refusal _ h
   refusal_may refusal_of.OutOfMemory h = either h
       (λ (changes : ChangesByMemory r). by_memory changes.lines changes.given_up changes.after changes.is)
       (λ (o, is). subst (λ q. DoesEffect script w q (refused no_memory w).0 (refused no_memory w).1) (sym is) (inr (refl, refl)))
-  refusal_may refusal_of.ObjectLimit h = by_refusal _ h
-  refusal_may refusal_of.EntryLimit h = by_refusal _ h
-  refusal_may refusal_of.InCollection h = by_refusal _ h
+  refusal_may _ h = by_refusal _ h
 
   pub change_may : (wants : Bool) (lines : List Event) (given_up : List ℕ) (after : World) → r ≡ Ok (ChangesEffect wants lines given_up after)
       → DoesEffect script w r lines (push (Releasing given_up) after)
@@ -117,17 +106,12 @@ member_at (y ∷ objects) x (inr m) = go (y.serial == x.serial) (member_at objec
 
 -- a called function lives
 abbrev IsThere : World → Effect → Type 0
-IsThere w (ChangesEffect wants_memory lines given_up after) = Unit {0}
 IsThere w (CallsEffect f) = is_in_map w.objects f ≡ true
-IsThere w (CollectsEffect g) = Unit {0}
-IsThere w (ExplainsEffect o) = Unit {0}
-IsThere w QuitsEffect = Unit {0}
+IsThere w _ = Unit {0}
 
 shape_there : (w : World) (command : Command) (e : Effect) → Shape w command e → IsThere w e
 shape_there w command e (StartsFrame f h) = member_at w.objects f h.member
-shape_there w command e (StartsCollection g low) = tt
-shape_there w command e Ends = tt
-shape_there w command e s = tt
+shape_there w command e _ = tt
 
 -- the release of what was given up is on top
 pub change_stands : (script : Script) (top : Own) (e : State) (given_up : Entry) (release : Release) (after : World) → references_left release

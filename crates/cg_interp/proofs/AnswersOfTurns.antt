@@ -1,14 +1,36 @@
 -- The answer of a turn when no collection has a line left.
-use Rattle.std.proofs.Common.{◌≡◌, refl, sym, inl, append-nil, List, [], ◌∷◌, ◌++◌}
+use Rattle.std.proofs.Common.{◌≡◌, ◌≢◌, refl, sym, ◌∙◌, inl, append-nil, List, [], ◌∷◌, ◌++◌}
 use Rattle.cg_graph.proofs.Members.{either}
 use Rattle.cg_script.specs.declared.Script.{Script}
 use Rattle.cg_machine.specs.declared.event.Event.{Event}
-use Rattle.cg_machine.specs.World.{World}
+use Rattle.cg_machine.specs.declared.event.Event.TheVariants.{End, BudgetSpent, Left}
+use Rattle.cg_machine.specs.World.{World, Outcome, Ended, BudgetIsSpent}
+use Rattle.cg_machine.specs.Frame.{Transition}
+use Rattle.cg_represents.specs.Represents.{Goes}
 use Rattle.cg_interp.specs.declared.turned.Turned.{Turned}
 use Rattle.cg_interp.specs.declared.turned.Turned.TheVariants as turned
-use Rattle.cg_interp.specs.Engines.{State}
-use Rattle.cg_interp.specs.Turns.{Turns, GoesTo}
+use Rattle.cg_interp.specs.Engines.{State, StandsFor}
+use Rattle.cg_interp.specs.Turns.{Turns, GoesTo, RunEndsWith, Makes}
 use Rattle.cg_interp.specs.Telling.{TurnsWith, GoesOnTo}
+
+-- A transition that the machine reached answers a turn.
+module _ (script : Script) (w : World) (e : State) (t : Transition) (goes : Goes script w t.0 t.1) where
+  abbrev telling : (told : List Event) → t.0 ≡ told → Goes script w told t.1
+  telling told is = record { steps = goes.steps; run = goes.run; prints = goes.prints ∙ is; ends = goes.ends; alone = goes.alone }
+
+  on : (told : List Event) → goes.steps ≢ [] → t.0 ≡ told → StandsFor script e t.1 → GoesTo script w told e
+  on told moves is stands = record { after = t.1; goes = telling told is; moves = moves; stands = stands }
+
+  ends : (told : List Event) (outcome : Outcome) → t.0 ≡ told → t.1.outcome ≡ outcome → RunEndsWith script w told outcome
+  ends told outcome is ended = record { after = t.1; goes = telling told is; ended = ended }
+
+  pub reaches : goes.steps ≢ [] → (answer : Turned) → Makes script t e answer → Turns script w e answer
+  reaches moves turned.Quiet makes = on [] moves makes.0 makes.1
+  reaches moves (turned.Line event) makes = on (event ∷ []) moves makes.0 makes.1
+  reaches moves (turned.Lines events) makes = on events moves makes.0 makes.1
+  reaches moves turned.Ended makes = ends (End ∷ []) Ended makes.0 makes.1
+  reaches moves (turned.Left n) makes = ends (Left n ∷ End ∷ []) Ended makes.0 makes.1
+  reaches moves turned.Spent makes = ends (BudgetSpent ∷ []) BudgetIsSpent makes.0 makes.1
 
 -- a step was made, and no line is left to print
 goes_on : (script : Script) (may_rest : List Event → Type 0) (w : World) (e : State) (events : List Event) → GoesTo script w events e → events ≡ events ++ [] → GoesOnTo script may_rest w [] events e
@@ -27,9 +49,7 @@ pub turns_told : (script : Script) (may_rest : List Event → Type 0) (w : World
 turns_told script may_rest w e turned.Quiet goes = goes_on script may_rest w e [] goes refl
 turns_told script may_rest w e (turned.Line event) goes = goes_on script may_rest w e (event ∷ []) goes refl
 turns_told script may_rest w e (turned.Lines events) goes = goes_on script may_rest w e events goes (sym (append-nil events))
-turns_told script may_rest w e turned.Ended ends = (refl, ends)
-turns_told script may_rest w e (turned.Left n) ends = (refl, ends)
-turns_told script may_rest w e turned.Spent ends = (refl, ends)
+turns_told script may_rest w e _ ends = (refl, ends)
 
 pub turns_plainly : (script : Script) (w : World) (e : State) (answer : Turned) → Turns script w e answer → TurnsWith script (λ still. ⊥) w [] e answer
 turns_plainly script w e answer turns = turns_told script (λ still. ⊥) w e answer turns
@@ -51,6 +71,4 @@ pub turns_moving : (script : Script) (may_rest : List Event → Type 0) (w : Wor
 turns_moving script may_rest w left e turned.Quiet turns = moving script may_rest w left [] e turns
 turns_moving script may_rest w left e (turned.Line event) turns = moving script may_rest w left (event ∷ []) e turns
 turns_moving script may_rest w left e (turned.Lines events) turns = moving script may_rest w left events e turns
-turns_moving script may_rest w left e turned.Ended turns = turns
-turns_moving script may_rest w left e (turned.Left n) turns = turns
-turns_moving script may_rest w left e turned.Spent turns = turns
+turns_moving script may_rest w left e _ turns = turns

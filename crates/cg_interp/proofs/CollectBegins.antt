@@ -37,16 +37,8 @@ starts_there asked d first below (Some r) q is = absurd (cc)
 
 -- when the machine is about to start, no line is left
 none_at_start : (script : Script) (asked : Bool) (d : Collection) (p : Phase) (pending : List ℕ) (store : Store) → machine_phase p pending ≡ Some machine.Start → lines_left script asked d p store ≡ []
-none_at_start script asked d (phase_of.Sizes zero one two frozen) pending store is = absurd (cc)
-none_at_start script asked d (phase_of.Telling next) pending store is = absurd (cc)
-none_at_start script asked d (phase_of.Living next) pending store is = absurd (cc)
-none_at_start script asked d (phase_of.Detaching next) pending store is = absurd (cc)
-none_at_start script asked d (phase_of.Unlinking member weak) pending store is = absurd (cc)
-none_at_start script asked d (phase_of.Uncollectable first next number) pending store is = absurd (cc)
-none_at_start script asked d (phase_of.Saved next number) pending store is = absurd (cc)
-none_at_start script asked d (phase_of.Stopping number) pending store is = absurd (cc)
-none_at_start script asked d (phase_of.Over number) pending store is = absurd (cc)
-none_at_start script asked d p pending store is = refl
+none_at_start script asked d phase_of.Start pending store is = refl
+none_at_start script asked d _ pending store is = absurd (cc)
 
 module _ (script : Script) (asked : Bool) (g : ℕ) (top : Own) (e : State) (w : World) (stands : StandsFor script (under top e) w) where
   abbrev begins_as : machine.Collection

@@ -1,6 +1,7 @@
 -- What a collection on top holds, how many collections are under way, and room for a step.
-use Rattle.std.proofs.Common.{◌≡◌, refl, sym, ◌∙◌, ap, subst, ℕ, ◌+◌, ◌<◌, ◌≤◌, Bool, true, false, cond, List, [], ◌∷◌, ◌++◌, length, length-append, Option, None, Some, arith}
+use Rattle.std.proofs.Common.{◌≡◌, refl, sym, ◌∙◌, ap, subst, ℕ, ◌+◌, ◌<◌, ◌≤◌, Bool, true, false, cond, ◌||◌, List, [], ◌∷◌, ◌++◌, length, length-append, Option, None, Some, arith}
 use Rattle.std.specs.Prelude.{◌-◌, flat_map, count_by, map, drop}
+use Rattle.std.specs.List.{list_any}
 use Rattle.std.specs.FinMap as fin
 use Rattle.std.proofs.lemmas.List.Sums.{sum_by-cons, sum_by-append}
 use Rattle.cg_value.specs.declared.Place.TheVariants.{Pend}
@@ -14,14 +15,12 @@ use Rattle.cg_heap.specs.Keeps.{one}
 use Rattle.cg_heap.specs.Calls.{IsSound, HasFewHolds, object_number}
 use Rattle.cg_trial.proofs.Lists.{occurrences-cons}
 use Rattle.cg_machine.specs.World as machine
-use Rattle.cg_machine.specs.World.{World, Activity, Releasing, Collecting, TopLevel, Framed, ShuttingDown}
+use Rattle.cg_machine.specs.World.{World, Activity, Releasing, Collecting}
 use Rattle.cg_machine.specs.Holdings.{holds, is_collection}
 use Rattle.cg_laws.specs.Lawful.{IsLawful}
 use Rattle.cg_represents.specs.Represents.{Represents}
 use Rattle.cg_death.specs.declared.release.Release.{Release}
-use Rattle.cg_death.specs.declared.phase.Phase.{Phase as DeathPhase}
-use Rattle.cg_death.specs.declared.phase.Phase.TheVariants as death_phase
-use Rattle.cg_death.specs.Activities.{HasHolds, references_left, death_activities, death_of}
+use Rattle.cg_death.specs.Activities.{HasHolds, references_left}
 use Rattle.cg_death.proofs.CallerLemmas.{held_on_top}
 use Rattle.cg_collect.specs.declared.collection.Collection.{Collection}
 use Rattle.cg_collect.specs.declared.phase.Phase.{Phase}
@@ -30,18 +29,16 @@ use Rattle.cg_collect.specs.Phases.{machine_phase, collecting, collection_of, re
 use Rattle.cg_collect.specs.Collections.{held_by, given_up_by, own_holds_at}
 use Rattle.cg_interp.specs.declared.activity.Activity.{Activity as Own}
 use Rattle.cg_interp.specs.declared.activity.Activity.TheVariants as activity
-use Rattle.cg_machine.specs.Program.{commands_of}
-use Rattle.cg_interp.specs.Engines.{State, commands_from, frame_of, ActivityShows, ShowsAll, HasHandedOut, released_first, is_collecting, any_collecting}
+use Rattle.cg_interp.specs.Engines.{State, ActivityShows, ShowsAll, HasHandedOut, is_collecting, any_collecting}
 use Rattle.cg_interp.specs.Turns.{IsFit}
 use Rattle.cg_interp.proofs.LawsOfEngines.{at_least, few_holds, few_objects}
 use Rattle.cg_interp.proofs.CollectReady.{phase_there}
+use Rattle.cg_interp.proofs.CollectionUnderWay.{shown}
 
 -- the heap after the remaining lines are printed has the same nodes
 nodes_after : (p : Phase) (store : Store) → (store_after p store).nodes ≡ store.nodes
 nodes_after (phase_of.Living next) store = refl
-nodes_after (phase_of.Detaching next) store = refl
-nodes_after (phase_of.Unlinking member weak) store = refl
-nodes_after p store = refl
+nodes_after _ store = refl
 
 outside_after : (p : Phase) (store : Store) (s : ℕ) → outside_of (store_after p store) s ≡ outside_of store s
 outside_after p store s = ap (λ m. outside_in (fin.get m s)) (nodes_after p store)
@@ -54,9 +51,7 @@ held_over s (Some release) tops = occurrences-append s (references_left release)
 
 held_at : (s : ℕ) (asked : Bool) (c : Collection) (p : Phase) (pending : List ℕ) → occurrences s (own_holds_at p) ≤ occurrences s (flat_map holds (collecting asked c (machine_phase p pending)))
 held_at s asked c (phase_of.AfterCallback weak) pending = omega (arith, occurrences-cons s weak [], occurrences-cons s weak (drop 1 pending ++ []))
-held_at s asked c (phase_of.AfterFinalizing o) pending = omega arith
-held_at s asked c (phase_of.Turn o) pending = omega arith
-held_at s asked c p pending = omega arith
+held_at s asked c _ pending = omega arith
 
 module _ (asked : Bool) (c : Collection) (store : Store) (w : World) (below : List Activity) (r : Represents (store_after c.phase store) w) (top : w.stack ≡ on_stack asked c store ++ below) where
   -- a collection on top has its holds
@@ -112,21 +107,16 @@ count_more a below = sum_by-cons (λ (b : Activity). cond {A = ℕ} (is_collecti
 pub count_own : (a : Own) (below : List Own) → count_by is_collecting (a ∷ below) ≡ cond (is_collecting a) 1 0 + count_by is_collecting below
 count_own a below = sum_by-cons (λ (b : Own). cond {A = ℕ} (is_collecting b) 1 0) a below
 
-death_is_none : (o : ℕ) (phase : DeathPhase) (waiting : List ℕ) → count_by is_collection (death_activities o phase waiting) ≡ 0
-death_is_none o death_phase.Over waiting = omega arith
-death_is_none o death_phase.Finalizer waiting = omega (arith, count_more (death_of o machine.Finalizer) [])
-death_is_none o death_phase.AfterFinalizer waiting = omega (arith, count_more (death_of o machine.AfterFinalizer) [])
-death_is_none o death_phase.Clearing waiting = omega (arith, count_more (death_of o (machine.Clearing waiting)) [])
-death_is_none o death_phase.Calling waiting = omega (arith, count_more (death_of o (machine.Calling waiting)) [])
-death_is_none o (death_phase.AfterCall weak callback) waiting = omega (arith, count_more (death_of o (machine.AfterCall weak callback waiting)) [])
-death_is_none o death_phase.LegacyFinalizer waiting = omega (arith, count_more (death_of o machine.LegacyFinalizer) [])
-death_is_none o death_phase.AfterLegacy waiting = omega (arith, count_more (death_of o machine.AfterLegacy) [])
-death_is_none o death_phase.Detaching waiting = omega (arith, count_more (death_of o machine.Detaching) [])
-death_is_none o death_phase.Emptying waiting = omega (arith, count_more (death_of o machine.Emptying) [])
-
-release_is_none : (release : Option Release) (rest : List Activity) → count_by is_collection (released_first release rest) ≡ count_by is_collection rest
-release_is_none None rest = refl
-release_is_none (Some release) rest = omega (arith, count_more (Releasing (references_left release)) rest)
+-- a test that no element passes counts none
+pub none_counted : {X : Type 0} (p : X → Bool) (xs : List X) → list_any p xs ≡ false → count_by p xs ≡ 0
+none_counted p [] none = omega arith
+none_counted {X = X} p (x ∷ xs) none = go (p x) refl none (none_counted p xs)
+  where
+    go : (b : Bool) → p x ≡ b → (b || list_any p xs) ≡ false → (list_any p xs ≡ false → count_by p xs ≡ 0) → count_by p (x ∷ xs) ≡ 0
+    go true is found rest = absurd (let clash : true ≡ false = found in cc)
+    go false is none rest =
+        let zero : cond {A = ℕ} (p x) 1 0 ≡ 0 = ap (λ b. cond {A = ℕ} b 1 0) is in
+        omega (arith, sum_by-cons (λ (y : X). cond {A = ℕ} (p y) 1 0) x xs, zero, rest none)
 
 one_collection : (release : Option Release) (c : machine.Collection) → count_by is_collection (released_over release (Collecting c ∷ [])) ≡ 1
 one_collection None c = omega (arith, count_more (Collecting c) [])
@@ -139,13 +129,8 @@ counts_one asked c tops out =
     ap (count_by is_collection) (out.shown ∙ ap (λ x. released_over c.release (collecting asked c x)) is) ∙ one_collection c.release (collection_of asked c q)
 
 counts_alike : (script : Script) (a : Own) (tops : List Activity) → ActivityShows script a tops → count_by is_collection tops ≡ cond (is_collecting a) 1 0
-counts_alike script (activity.Script next) tops is = ap (count_by is_collection) is ∙ count_more (TopLevel (commands_from next (commands_of script.items))) []
-counts_alike script (activity.Frame locals procedure next) tops is = ap (count_by is_collection) is ∙ count_more (Framed (frame_of script locals procedure next)) []
-counts_alike script (activity.Releasing release) tops is = ap (count_by is_collection) is ∙ count_more (Releasing (references_left release)) []
-counts_alike script (activity.Shutdown started) tops is = ap (count_by is_collection) is ∙ count_more (ShuttingDown started) []
-counts_alike script (activity.Dying death) tops (waiting, is, settled) = ap (count_by is_collection) is ∙ release_is_none death.release
-    (death_activities death.object death.phase waiting) ∙ death_is_none death.object death.phase waiting
 counts_alike script (activity.Collecting asked c) tops out = counts_one asked c tops out
+counts_alike script a tops is = none_counted is_collection tops (shown script a tops is)
 
 -- the stack and the activities have the same number of collections
 pub count_same : (script : Script) (activities : List Own) (stack : List Activity) → ShowsAll script activities stack → count_by is_collection stack ≡ count_by is_collecting activities
@@ -155,20 +140,7 @@ count_same script (a ∷ activities) stack shows =
     ∙ sum_by-append (λ (b : Activity). cond {A = ℕ} (is_collection b) 1 0) shows.tops shows.below in
     omega (arith, parts, counts_alike script a shows.tops shows.shows, count_same script activities shows.below shows.over, count_own a activities)
 
-pub none_counted : (activities : List Own) → any_collecting activities ≡ false → count_by is_collecting activities ≡ 0
-none_counted [] none = omega arith
-none_counted (activity.Script next ∷ activities) none = omega (arith, count_own (activity.Script next) activities, none_counted activities none)
-none_counted (activity.Frame locals procedure next ∷ activities) none = omega (arith, count_own (activity.Frame locals procedure next) activities, none_counted activities none)
-none_counted (activity.Releasing release ∷ activities) none = omega (arith, count_own (activity.Releasing release) activities, none_counted activities none)
-none_counted (activity.Shutdown started ∷ activities) none = omega (arith, count_own (activity.Shutdown started) activities, none_counted activities none)
-none_counted (activity.Dying death ∷ activities) none = omega (arith, count_own (activity.Dying death) activities, none_counted activities none)
-none_counted (activity.Collecting asked c ∷ activities) none = absurd (let clash : true ≡ false = none in cc)
-
 pub none_found : (activities : List Own) → count_by is_collecting activities ≡ 0 → any_collecting activities ≡ false
 none_found [] none = refl
-none_found (activity.Script next ∷ activities) none = none_found activities (omega (arith, none, count_own (activity.Script next) activities))
-none_found (activity.Frame locals procedure next ∷ activities) none = none_found activities (omega (arith, none, count_own (activity.Frame locals procedure next) activities))
-none_found (activity.Releasing release ∷ activities) none = none_found activities (omega (arith, none, count_own (activity.Releasing release) activities))
-none_found (activity.Shutdown started ∷ activities) none = none_found activities (omega (arith, none, count_own (activity.Shutdown started) activities))
-none_found (activity.Dying death ∷ activities) none = none_found activities (omega (arith, none, count_own (activity.Dying death) activities))
 none_found (activity.Collecting asked c ∷ activities) none = absurd (omega (arith, none, count_own (activity.Collecting asked c) activities))
+none_found (a ∷ activities) none = none_found activities (omega (arith, none, count_own a activities))

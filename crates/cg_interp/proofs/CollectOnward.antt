@@ -6,7 +6,7 @@ use Rattle.cg_heap.specs.Calls.{IsSound}
 use Rattle.cg_machine.specs.declared.event.Event.{Event}
 use Rattle.cg_machine.specs.declared.event.Event.TheVariants.{End, BudgetSpent, Left}
 use Rattle.cg_machine.specs.World as machine
-use Rattle.cg_machine.specs.World.{World, Outcome, TopLevel, Framed, Releasing, Dying, Collecting, ShuttingDown}
+use Rattle.cg_machine.specs.World.{World, Outcome, Collecting}
 use Rattle.cg_machine.specs.Run.{StepTaken, Run, events_of, last_world}
 use Rattle.cg_represents.specs.Represents.{Goes, detects, is_detection, MakesNoDetection, MakesDetectionsAlone}
 use Rattle.cg_laws.proofs.Ending.{Run-append, last_world-append}
@@ -48,25 +48,11 @@ use Rattle.cg_interp.proofs.SilentTurns.{none-append, alone, none_made, some_aft
 undetected_phase : (g : ℕ) (phase : machine.CollectPhase) → detection_at g phase ≡ None → is_detection phase ≡ false
 undetected_phase g machine.Start none = absurd (cc)
 undetected_phase g machine.Split none = absurd (cc)
-undetected_phase g (machine.WeakClearing waiting) none = refl
-undetected_phase g (machine.WeakCalling waiting) none = refl
-undetected_phase g (machine.AfterCallback weak waiting) none = refl
-undetected_phase g (machine.AfterRelease weak waiting) none = refl
-undetected_phase g machine.Finalizing none = refl
-undetected_phase g (machine.AfterFinalizing o) none = refl
-undetected_phase g machine.Turns none = refl
-undetected_phase g (machine.Turn o) none = refl
-undetected_phase g (machine.AfterTurn o) none = refl
-undetected_phase g machine.Ending none = refl
+undetected_phase g _ none = refl
 
 undetected : (stack : List machine.Activity) → next_detection stack ≡ None → detects stack ≡ false
-undetected [] none = refl
-undetected (TopLevel commands ∷ below) none = refl
-undetected (Framed f ∷ below) none = refl
-undetected (Releasing references ∷ below) none = refl
-undetected (Dying d ∷ below) none = refl
 undetected (Collecting c ∷ below) none = undetected_phase c.generation c.phase none
-undetected (ShuttingDown started ∷ below) none = refl
+undetected _ none = refl
 
 -- A collection on top makes none unless its stage says so.
 detects_none : (script : Script) (asked : Bool) (c : Collection) (e : State) (left : List Event) (w : World) → Collects script asked c e left w
@@ -135,13 +121,8 @@ module _ (script : Script) (asked : Bool) (w : World) (left : List Event) (d : C
   module _ (c : Collection) (e new : State) (far : HasNotMoved c e.store d at.store ⊎ CollectFalls c e.store d at.store) where
     nearer_then : (activities : List Activity) → IsNearer (activity.Collecting asked d ∷ at.activities) at.store activities new.store
         → IsNearer (activity.Collecting asked c ∷ e.activities) e.store activities new.store
-    nearer_then [] near = tt
-    nearer_then (activity.Script next ∷ below) near = tt
-    nearer_then (activity.Frame locals procedure next ∷ below) near = tt
-    nearer_then (activity.Releasing release ∷ below) near = tt
-    nearer_then (activity.Shutdown started ∷ below) near = tt
-    nearer_then (activity.Dying death ∷ below) near = tt
     nearer_then (activity.Collecting also x ∷ below) near = moved_then c d x e.store at.store new.store far near
+    nearer_then _ near = tt
 
     advances_then : (more : List Event) → still ≡ left → Advances (under (activity.Collecting asked d) at) still new more → Advances (under (activity.Collecting asked c) e) left new more
     advances_then more same (inl fewer) = inl (omega (arith, fewer, ap length same))

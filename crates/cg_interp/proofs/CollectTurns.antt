@@ -15,7 +15,7 @@ use Rattle.cg_machine.specs.declared.event.Event.TheVariants.{Enter, BudgetSpent
 use Rattle.cg_machine.specs.declared.event.FrameSpec.{FrameSpec}
 use Rattle.cg_machine.specs.Program.{body_of}
 use Rattle.cg_machine.specs.World as machine
-use Rattle.cg_machine.specs.World.{World, Numbers, Activity, Dying, Framed, Releasing, Collecting, BudgetIsSpent}
+use Rattle.cg_machine.specs.World.{World, Numbers, Activity, Framed, Collecting, BudgetIsSpent}
 use Rattle.cg_machine.specs.Frame.{Transition, begin_death, start_frame}
 use Rattle.cg_machine.specs.Holdings.{holds}
 use Rattle.cg_machine.specs.Run.{StepTaken, events_of, last_world}
@@ -33,11 +33,13 @@ use Rattle.cg_interp.specs.declared.activity.Activity.{Activity as Own}
 use Rattle.cg_interp.specs.declared.activity.Activity.TheVariants as activity
 use Rattle.cg_interp.specs.declared.turned.Turned.{Turned}
 use Rattle.cg_interp.specs.declared.turned.Turned.TheVariants as turned
-use Rattle.cg_interp.specs.Engines.{State, StandsFor, ShowsAll, ShowsTop, under, any_collecting}
+use Rattle.cg_interp.specs.Engines.{State, StandsFor, ShowsAll, ShowsTop, under, any_collecting, is_collecting}
 use Rattle.cg_interp.specs.Collecting.{StandsWith, Collects}
 use Rattle.cg_interp.specs.Telling.{TurnsWith, GoesOnTo, Advances, IsNearer}
 use Rattle.cg_interp.specs.Turns.{Makes, DyingIsSound}
 use Rattle.cg_interp.proofs.LawsOfEngines.{dying_sound, total_fits, is_live}
+use Rattle.cg_interp.proofs.AnswersOfTurns.{turns_told, reaches}
+use Rattle.cg_interp.proofs.DeathLemmas.{starts_moves}
 use Rattle.cg_interp.proofs.CollectReady.{resumes, phase_there, shown_there}
 use Rattle.cg_interp.proofs.CollectHolds.{count_same, count_own, none_counted, none_found}
 
@@ -52,17 +54,14 @@ numbers_in_run : (p : Phase) (g : ℕ) (n : Numbers) → MayRun p → numbers_at
 numbers_in_run phase_of.Start g n runs = absurd runs
 numbers_in_run p g n runs = refl
 
-lines_in_run : (script : Script) (asked : Bool) (c : Collection) (p : Phase) (store : Store) → MayRun p → lines_left script asked c p store ≡ []
-lines_in_run script asked c (phase_of.Sizes zero one two frozen) store runs = absurd runs
-lines_in_run script asked c (phase_of.Telling next) store runs = absurd runs
-lines_in_run script asked c (phase_of.Living next) store runs = absurd runs
-lines_in_run script asked c (phase_of.Detaching next) store runs = absurd runs
-lines_in_run script asked c (phase_of.Unlinking member weak) store runs = absurd runs
-lines_in_run script asked c (phase_of.Uncollectable first next number) store runs = absurd runs
-lines_in_run script asked c (phase_of.Saved next number) store runs = absurd runs
-lines_in_run script asked c (phase_of.Stopping number) store runs = absurd runs
-lines_in_run script asked c (phase_of.Over number) store runs = absurd runs
-lines_in_run script asked c p store runs = refl
+pub lines_in_run : (script : Script) (asked : Bool) (c : Collection) (p : Phase) (store : Store) → MayRun p → lines_left script asked c p store ≡ []
+lines_in_run script asked c (phase_of.AfterCallback weak) store runs = refl
+lines_in_run script asked c (phase_of.AfterFinalizing o) store runs = refl
+lines_in_run script asked c (phase_of.AfterRelease weak) store runs = refl
+lines_in_run script asked c phase_of.Finalizing store runs = refl
+lines_in_run script asked c (phase_of.Turn o) store runs = refl
+lines_in_run script asked c (phase_of.AfterTurn o) store runs = refl
+lines_in_run script asked c _ store runs = absurd runs
 
 runs_in_machine : (p : Phase) → MayRun p → is_some (machine_phase p []) ≡ true
 runs_in_machine p runs = ap is_some (phase_there p [] runs).1
@@ -115,7 +114,7 @@ module _ (script : Script) (asked : Bool) (c : Collection) (e : State) (left : L
       orderly = kept.lawful.orderly;
       unheld = kept.lawful.unheld;
       once = (dying_sound script e.first_budget w kept.lawful).once;
-      alone = count_same script e.activities k.below k.over ∙ none_counted e.activities k.alone;
+      alone = count_same script e.activities k.below k.over ∙ none_counted is_collecting e.activities k.alone;
     }
 
     -- it goes on, in an engine with the same activities
@@ -217,13 +216,8 @@ module _ (script : Script) (asked : Bool) (c : Collection) (e : State) (left : L
 
       -- none is on top
       none_on_top : (own : List Own) → any_collecting own ≡ false → IsNearer (activity.Collecting asked c ∷ e.activities) e.store own new.store
-      none_on_top [] none = tt
-      none_on_top (activity.Script next ∷ own) none = tt
-      none_on_top (activity.Frame locals procedure next ∷ own) none = tt
-      none_on_top (activity.Releasing release ∷ own) none = tt
-      none_on_top (activity.Shutdown started ∷ own) none = tt
-      none_on_top (activity.Dying death ∷ own) none = tt
       none_on_top (activity.Collecting also d ∷ own) none = absurd (let clash : true ≡ false = none in cc)
+      none_on_top _ none = tt
 
       ends_telling : (told : List Event) → left ≡ told → Advances (under (activity.Collecting asked c) e) left new []
           → GoesOnTo script (Advances (under (activity.Collecting asked c) e) left new) w left told new
@@ -261,84 +255,14 @@ entered script spec w = record w {
 abbrev started : Script → FrameSpec → World → Bool → Transition
 started script spec w b = if b then (BudgetSpent ∷ [], record w { outcome = BudgetIsSpent }) else (Enter spec.sort spec.subject ∷ [], entered script spec w)
 
--- It prints a line.
-starts_telling : (script : Script) (spec : FrameSpec) (w : World) → (start_frame script spec w).0 ≡ [] → ⊥
-starts_telling script spec w = go (w.budget == 0)
-  where
-    go : (b : Bool) → (started script spec w b).0 ≡ [] → ⊥
-    go true e = cc
-    go false e = cc
-
--- A transition with these lines, at least one, was made when no line was left.
-tells_with : (script : Script) (may_rest : List Event → Type 0) (w : World) (left : List Event) (transition : Transition) (e : State) (told : List Event) → left
-    ≡ [] → Goes script w transition.0 transition.1 → (transition.0 ≡ [] → ⊥) → transition.0 ≡ told → StandsFor script e transition.1
-    → GoesOnTo script may_rest w left told e
-tells_with script may_rest w left transition e told none goes tells is stands = record {
-  events = told;
-  after = transition.1;
-  still = [];
-  goes = record { steps = goes.steps; run = goes.run; prints = goes.prints ∙ is; ends = goes.ends; alone = goes.alone };
-  lines = ap (λ l. l ++ told) none ∙ sym (append-nil told);
-  moves = inl (λ no_step. tells (sym goes.prints ∙ ap events_of no_step));
-  stands = inl (stands, refl);
-}
-
--- the same, by the answer
-pub makes_with : (script : Script) (may_rest : List Event → Type 0) (w : World) (left : List Event) (transition : Transition) (e : State) (answer : Turned)
-    → left ≡ [] → Goes script w transition.0 transition.1 → (transition.0 ≡ [] → ⊥) → Makes script transition e answer
-    → TurnsWith script may_rest w left e answer
-makes_with script may_rest w left transition e turned.Quiet none goes tells makes = absurd (tells makes.0)
-makes_with script may_rest w left transition e (turned.Line event) none goes tells makes = tells_with script may_rest w left transition e (event ∷ []) none goes tells makes.0 makes.1
-makes_with script may_rest w left transition e (turned.Lines events) none goes tells makes = tells_with script may_rest w left transition e events none goes tells makes.0 makes.1
-makes_with script may_rest w left transition e turned.Ended none goes tells makes = (
-  none,
-  record {
-    after = transition.1;
-    goes = record {
-      steps = goes.steps;
-      run = goes.run;
-      prints = goes.prints ∙ makes.0;
-      ends = goes.ends;
-      alone = goes.alone;
-    };
-    ended = makes.1;
-  },
-)
-makes_with script may_rest w left transition e (turned.Left n) none goes tells makes = (
-  none,
-  record {
-    after = transition.1;
-    goes = record {
-      steps = goes.steps;
-      run = goes.run;
-      prints = goes.prints ∙ makes.0;
-      ends = goes.ends;
-      alone = goes.alone;
-    };
-    ended = makes.1;
-  },
-)
-makes_with script may_rest w left transition e turned.Spent none goes tells makes = (
-  none,
-  record {
-    after = transition.1;
-    goes = record {
-      steps = goes.steps;
-      run = goes.run;
-      prints = goes.prints ∙ makes.0;
-      ends = goes.ends;
-      alone = goes.alone;
-    };
-    ended = makes.1;
-  },
-)
-
+-- It answers a turn, when no line was left.
 pub starts_with : (script : Script) (may_rest : List Event → Type 0) (w : World) (left : List Event) (spec : FrameSpec) (before : World) (e : State)
     (answer : Turned) → left ≡ [] → Goes script w (start_frame script spec before).0 (start_frame script spec before).1
     → Makes script (start_frame script spec before) e answer
     → TurnsWith script may_rest w left e answer
-starts_with script may_rest w left spec before e answer none goes makes = makes_with script may_rest w left (start_frame script spec before) e answer none goes
-    (starts_telling script spec before) makes
+starts_with script may_rest w left spec before e answer none goes makes =
+    subst (λ l. TurnsWith script may_rest w l e answer) (sym none)
+    (turns_told script may_rest w e answer (reaches script w e (start_frame script spec before) goes (starts_moves script spec before goes.steps goes.prints) answer makes))
 
 -- how many activities a collection represents
 at_most_two : (asked : Bool) (c : Collection) (store : Store) → length (on_stack asked c store) ≤ 2
@@ -377,15 +301,9 @@ death_moves script asked c d old new w before below o top now runs gives goes no
 
 pub dies_with : (script : Script) (may_rest : List Event → Type 0) (w before : World) (left : List Event) (o : ℕ) (e : State) → left ≡ []
     → (goes : Goes script w [] (begin_death o before)) → goes.steps ≢ [] → StandsFor script e (begin_death o before) → GoesOnTo script may_rest w left [] e
-dies_with script may_rest w before left o e none goes moves stands = record {
-  events = [];
-  after = begin_death o before;
-  still = [];
-  goes = goes;
-  lines = ap (λ l. l ++ []) none;
-  moves = inl moves;
-  stands = inl (stands, refl);
-}
+dies_with script may_rest w before left o e none goes moves stands =
+    subst (λ l. GoesOnTo script may_rest w l [] e) (sym none)
+    (turns_told script may_rest w e turned.Quiet (record { after = begin_death o before; goes = goes; moves = moves; stands = stands }))
 
 -- what the laws say of the world after a frame or a death gives what is required before it
 pub sound_at_death : (script : Script) (budget : ℕ) (w before : World) (o : ℕ) → StaysKept script budget w → Goes script w [] (begin_death o before) → DyingIsSound (begin_death o before)

@@ -21,15 +21,11 @@ neither true b idle = absurd (cc)
 
 -- a slot other than the collection's is the same activity with any seat
 alike : (one other : Option Collection) (top : Slot) → takes_seat top ≡ false → filled one top ≡ filled other top
-alike one other (slot.Script next) not = refl
-alike one other (slot.Frame locals procedure next) not = refl
-alike one other (slot.Releasing release) not = refl
-alike one other (slot.Shutdown started) not = refl
-alike one other (slot.Dying death) not = refl
 alike one other (slot.Collecting asked) not = absurd (cc)
+alike one other _ not = refl
 
 -- so are several without the collection's slot
-refilled : (one other : Option Collection) (slots : List Slot) → count_by takes_seat slots ≡ 0 → map (filled one) slots ≡ map (filled other) slots
+pub refilled : (one other : Option Collection) (slots : List Slot) → count_by takes_seat slots ≡ 0 → map (filled one) slots ≡ map (filled other) slots
 refilled one other [] none = refl
 refilled one other (top ∷ slots) none =
     let both = none_of (takes_seat top) (count_by takes_seat slots) (sym (sum_by-cons (λ s. cond (takes_seat s) 1 0) top slots) ∙ none) in
@@ -38,11 +34,7 @@ refilled one other (top ∷ slots) none =
 -- with a seated collection, exactly its slot is a collection
 collects : (c : Collection) (top : Slot) → is_collecting (filled (Some c) top) ≡ takes_seat top
 collects c (slot.Script next) = refl
-collects c (slot.Frame locals procedure next) = refl
-collects c (slot.Releasing release) = refl
-collects c (slot.Shutdown started) = refl
-collects c (slot.Dying death) = refl
-collects c (slot.Collecting asked) = refl
+collects c _ = refl
 
 -- so if no collection is under way, no slot is the collection's
 none_takes : (c : Collection) (slots : List Slot) → any_collecting (reverse (map (filled (Some c)) slots)) ≡ false → count_by takes_seat slots ≡ 0
@@ -64,12 +56,15 @@ at_most_one : (seat : Option Collection) → length (option_to_list seat) ≤ 1
 at_most_one None = omega arith
 at_most_one (Some c) = omega arith
 
+-- a slot on top comes first
+pub top_first : (seat : Option Collection) (slots : List Slot) (top : Slot) → reverse (map (filled seat) (slots ++ top ∷ [])) ≡ filled seat top ∷ reverse (map (filled seat) slots)
+top_first seat slots top = ap reverse (map-append (filled seat) slots (top ∷ [])) ∙ reverse-append (map (filled seat) slots) (filled seat top ∷ [])
+
 -- what a slot on top represents, and those below it with the seat without that one
 module _ (slots : List Slot) (top : Slot) (without with : Option Collection) (seats : Seats top without with) where
   topmost : (takes_seat top ≡ true → count_by takes_seat slots ≡ 0) → reverse (map (filled with) (slots ++ top ∷ [])) ≡ filled with top ∷ reverse (map (filled without) slots)
   topmost none =
-      ap reverse (map-append (filled with) slots (top ∷ []))
-      ∙ reverse-append (map (filled with) slots) (filled with top ∷ [])
+      top_first with slots top
       ∙ ap (λ l. filled with top ∷ reverse l) (same (takes_seat top) refl)
     where
       same : (b : Bool) → takes_seat top ≡ b → map (filled with) slots ≡ map (filled without) slots

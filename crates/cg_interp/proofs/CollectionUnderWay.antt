@@ -1,5 +1,5 @@
 -- A collection is under way in an engine exactly if one is on the machine's stack.
-use Rattle.std.proofs.Common.{◌≡◌, refl, sym, ◌∙◌, ap, ℕ, Bool, true, false, ◌||◌, List, [], ◌∷◌, Option, None, Some}
+use Rattle.std.proofs.Common.{◌≡◌, refl, sym, ◌∙◌, ap, ℕ, false, ◌||◌, List, [], ◌∷◌, Option, None, Some}
 use Rattle.std.specs.List.{list_any}
 use Rattle.std.proofs.lemmas.List.Folds.{list_any-append}
 use Rattle.cg_script.specs.declared.Script.{Script}
@@ -10,29 +10,18 @@ use Rattle.cg_death.specs.declared.phase.Phase.{Phase as DeathPhase}
 use Rattle.cg_death.specs.declared.phase.Phase.TheVariants as death_phase
 use Rattle.cg_death.specs.Activities.{death_activities}
 use Rattle.cg_policy.specs.Laws.{policy_of}
-use Rattle.cg_collect.specs.declared.phase.Phase.{Phase}
-use Rattle.cg_collect.specs.declared.phase.Phase.TheVariants as phase_of
-use Rattle.cg_collect.specs.declared.collection.Collection.{Collection}
 use Rattle.cg_collect.specs.Phases.{machine_phase, collecting, released_over}
-use Rattle.cg_collect.specs.Ready.{MayRun}
 use Rattle.cg_graph.specs.Store.{list_at}
 use Rattle.cg_value.specs.declared.Place.TheVariants.{Pend}
 use Rattle.cg_interp.specs.declared.activity.Activity.{Activity as Own}
 use Rattle.cg_interp.specs.declared.activity.Activity.TheVariants as activity
 use Rattle.cg_interp.specs.Engines.{State, StandsFor, ActivityShows, ShowsAll, released_first, is_collecting, any_collecting}
+use Rattle.cg_interp.proofs.CollectReady.{phase_there}
 
 -- a death is none
 death_is_none : (o : ℕ) (phase : DeathPhase) (waiting : List ℕ) → list_any is_collection (death_activities o phase waiting) ≡ false
 death_is_none o death_phase.Finalizer waiting = refl
-death_is_none o death_phase.AfterFinalizer waiting = refl
-death_is_none o death_phase.Clearing waiting = refl
-death_is_none o death_phase.Calling waiting = refl
-death_is_none o (death_phase.AfterCall weak callback) waiting = refl
-death_is_none o death_phase.LegacyFinalizer waiting = refl
-death_is_none o death_phase.AfterLegacy waiting = refl
-death_is_none o death_phase.Detaching waiting = refl
-death_is_none o death_phase.Emptying waiting = refl
-death_is_none o death_phase.Over waiting = refl
+death_is_none o _ waiting = refl
 
 -- nor is a release
 release_is_none : (release : Option Release) (rest : List Activity) → list_any is_collection (released_first release rest) ≡ list_any is_collection rest
@@ -43,41 +32,14 @@ release_over_is_none : (release : Option Release) (rest : List Activity) → lis
 release_over_is_none None rest = refl
 release_over_is_none (Some release) rest = refl
 
--- a collection in which frames and deaths run is one
-running_is_one : (asked : Bool) (c : Collection) (phase : Phase) (pending : List ℕ) → MayRun phase → list_any is_collection (collecting asked c (machine_phase phase pending)) ≡ true
-running_is_one asked c phase_of.Start pending runs = absurd runs
-running_is_one asked c (phase_of.Sizes zero one two frozen) pending runs = absurd runs
-running_is_one asked c (phase_of.Telling next) pending runs = absurd runs
-running_is_one asked c (phase_of.WeakClearing member weak) pending runs = absurd runs
-running_is_one asked c phase_of.WeakCalling pending runs = absurd runs
-running_is_one asked c (phase_of.AfterCallback weak) pending runs = refl
-running_is_one asked c (phase_of.AfterRelease weak) pending runs = refl
-running_is_one asked c phase_of.Finalizing pending runs = refl
-running_is_one asked c (phase_of.AfterFinalizing o) pending runs = refl
-running_is_one asked c phase_of.Split pending runs = absurd runs
-running_is_one asked c (phase_of.Living next) pending runs = absurd runs
-running_is_one asked c (phase_of.Detaching next) pending runs = absurd runs
-running_is_one asked c (phase_of.Unlinking member weak) pending runs = absurd runs
-running_is_one asked c phase_of.Turns pending runs = absurd runs
-running_is_one asked c (phase_of.Turn o) pending runs = refl
-running_is_one asked c (phase_of.AfterTurn o) pending runs = refl
-running_is_one asked c phase_of.Ending pending runs = absurd runs
-running_is_one asked c (phase_of.Uncollectable first next number) pending runs = absurd runs
-running_is_one asked c (phase_of.Saved next number) pending runs = absurd runs
-running_is_one asked c (phase_of.Stopping number) pending runs = absurd runs
-running_is_one asked c (phase_of.Over number) pending runs = absurd runs
-
 -- what one activity represents
-shown : (script : Script) (a : Own) (tops : List Activity) → ActivityShows script a tops → list_any is_collection tops ≡ is_collecting a
-shown script (activity.Script next) tops shows = ap (list_any is_collection) shows
-shown script (activity.Frame locals procedure next) tops shows = ap (list_any is_collection) shows
-shown script (activity.Releasing release) tops shows = ap (list_any is_collection) shows
-shown script (activity.Shutdown started) tops shows = ap (list_any is_collection) shows
+pub shown : (script : Script) (a : Own) (tops : List Activity) → ActivityShows script a tops → list_any is_collection tops ≡ is_collecting a
 shown script (activity.Dying death) tops shows =
     ap (list_any is_collection) shows.1 ∙ release_is_none death.release (death_activities death.object death.phase shows.0) ∙ death_is_none death.object death.phase shows.0
 shown script (activity.Collecting asked c) tops shows =
     ap (list_any is_collection) shows.shown ∙ release_over_is_none c.release (collecting asked c (machine_phase c.phase (list_at shows.then Pend)))
-    ∙ running_is_one asked c c.phase (list_at shows.then Pend) shows.handing.runs
+    ∙ ap (λ x. list_any is_collection (collecting asked c x)) (phase_there c.phase (list_at shows.then Pend) shows.handing.runs).1
+shown script _ tops shows = ap (list_any is_collection) shows
 
 -- what several represent
 pub under_way : (script : Script) (activities : List Own) (stack : List Activity) → ShowsAll script activities stack → list_any is_collection stack ≡ any_collecting activities

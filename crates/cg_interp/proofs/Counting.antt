@@ -24,12 +24,12 @@ use Rattle.cg_collect.specs.declared.collection.Collection.{Collection}
 use Rattle.cg_collect.specs.declared.phase.Phase.{Phase}
 use Rattle.cg_collect.specs.declared.phase.Phase.TheVariants as phase_of
 use Rattle.cg_collect.specs.Phases.{machine_phase, collecting, released_over, shown_with, lines_left, store_after}
-use Rattle.cg_collect.specs.Ready.{MayRun}
 use Rattle.cg_collect.specs.Answers.{numbers_at}
 use Rattle.cg_interp.specs.declared.activity.Activity.{Activity}
 use Rattle.cg_interp.specs.declared.activity.Activity.TheVariants as activity
 use Rattle.cg_interp.specs.Engines.{State, ActivityShows, ShowsAll, commands_from, frame_of, released_first, death_shown}
 use Rattle.cg_interp.specs.Collecting.{StandsWith}
+use Rattle.cg_interp.proofs.CollectTurns.{store_in_run, lines_in_run}
 
 -- the machine's activities, as if no weak reference waited
 abbrev pub shown : Script → Activity → List machine.Activity
@@ -42,23 +42,13 @@ shown script (activity.Collecting asked c) = shown_with asked c []
 
 -- the heap after a collection on top has printed its remaining lines
 abbrev pub store_told : List Activity → Store → Store
-store_told [] store = store
-store_told (activity.Script next ∷ below) store = store
-store_told (activity.Frame locals procedure next ∷ below) store = store
-store_told (activity.Releasing release ∷ below) store = store
-store_told (activity.Shutdown started ∷ below) store = store
-store_told (activity.Dying death ∷ below) store = store
 store_told (activity.Collecting asked c ∷ below) store = store_after c.phase store
+store_told _ store = store
 
 -- these lines
 abbrev pub lines_of : Script → List Activity → Store → List Event
-lines_of script [] store = []
-lines_of script (activity.Script next ∷ below) store = []
-lines_of script (activity.Frame locals procedure next ∷ below) store = []
-lines_of script (activity.Releasing release ∷ below) store = []
-lines_of script (activity.Shutdown started ∷ below) store = []
-lines_of script (activity.Dying death ∷ below) store = []
 lines_of script (activity.Collecting asked c ∷ below) store = lines_left script asked c c.phase store
+lines_of script _ store = []
 
 -- a world that an engine represents, as far as the number depends on it
 abbrev pub world_from : Script → State → World
@@ -72,43 +62,14 @@ world_from script e = record {
   outcome = Running;
 }
 
--- Where frames and deaths run, no line is left.
-nothing_left : (script : Script) (asked : Bool) (c : Collection) (phase : Phase) (store : Store) → MayRun phase → lines_left script asked c phase store ≡ []
-nothing_left script asked c (phase_of.AfterCallback weak) store runs = refl
-nothing_left script asked c (phase_of.AfterFinalizing o) store runs = refl
-nothing_left script asked c (phase_of.AfterRelease weak) store runs = refl
-nothing_left script asked c phase_of.Finalizing store runs = refl
-nothing_left script asked c (phase_of.Turn o) store runs = refl
-nothing_left script asked c (phase_of.AfterTurn o) store runs = refl
-nothing_left script asked c _ store runs = absurd runs
-
-told_already : (phase : Phase) (store : Store) → MayRun phase → store_after phase store ≡ store
-told_already (phase_of.AfterCallback weak) store runs = refl
-told_already (phase_of.AfterFinalizing o) store runs = refl
-told_already (phase_of.AfterRelease weak) store runs = refl
-told_already phase_of.Finalizing store runs = refl
-told_already (phase_of.Turn o) store runs = refl
-told_already (phase_of.AfterTurn o) store runs = refl
-told_already _ store runs = absurd runs
-
--- So an engine that represents a world has none, and its heap is that of the world.
+-- An engine that represents a world has no line left, and its heap is that of the world.
 no_lines : (script : Script) (activities : List Activity) (stack : List machine.Activity) (store : Store) → ShowsAll script activities stack → lines_of script activities store ≡ []
-no_lines script [] stack store s = refl
-no_lines script (activity.Script next ∷ below) stack store s = refl
-no_lines script (activity.Frame locals procedure next ∷ below) stack store s = refl
-no_lines script (activity.Releasing release ∷ below) stack store s = refl
-no_lines script (activity.Shutdown started ∷ below) stack store s = refl
-no_lines script (activity.Dying death ∷ below) stack store s = refl
-no_lines script (activity.Collecting asked c ∷ below) stack store s = nothing_left script asked c c.phase store s.shows.handing.runs
+no_lines script (activity.Collecting asked c ∷ below) stack store s = lines_in_run script asked c c.phase store s.shows.handing.runs
+no_lines script _ stack store s = refl
 
 same_store : (script : Script) (activities : List Activity) (stack : List machine.Activity) (store : Store) → ShowsAll script activities stack → store_told activities store ≡ store
-same_store script [] stack store s = refl
-same_store script (activity.Script next ∷ below) stack store s = refl
-same_store script (activity.Frame locals procedure next ∷ below) stack store s = refl
-same_store script (activity.Releasing release ∷ below) stack store s = refl
-same_store script (activity.Shutdown started ∷ below) stack store s = refl
-same_store script (activity.Dying death ∷ below) stack store s = refl
-same_store script (activity.Collecting asked c ∷ below) stack store s = told_already c.phase store s.shows.handing.runs
+same_store script (activity.Collecting asked c ∷ below) stack store s = store_in_run c.phase store s.shows.handing.runs
+same_store script _ stack store s = refl
 
 -- The engine determines its remaining lines.
 pub lines_are : (script : Script) (e : State) (left : List Event) (w : World) → StandsWith script e left w → left ≡ lines_of script e.activities e.store
@@ -116,58 +77,59 @@ lines_are script e left w (inl (stands, none)) = none ∙ sym (no_lines script e
 lines_are script e left w (inr top) = top.collects.lines ∙ ap (λ list. lines_of script list e.store) (sym top.top)
 
 -- A sum over the activities that does not depend on which weak references wait.
+abbrev Deaths : (machine.Activity → ℕ) → Type 0
+Deaths f = (o : ℕ) (phase : dying.Phase) (waiting : List ℕ) → tally f (death_activities o phase waiting) ≡ tally f (death_activities o phase [])
+
+abbrev Collections : (machine.Activity → ℕ) → Type 0
+Collections f = (asked : Bool) (c : Collection) (phase : Phase) (pending : List ℕ)
+    → tally f (collecting asked c (machine_phase phase pending)) ≡ tally f (collecting asked c (machine_phase phase []))
+
 record IsBlind (f : machine.Activity → ℕ) : Type 0 where
-  deaths : (o : ℕ) (phase : dying.Phase) (waiting : List ℕ) → tally f (death_activities o phase waiting) ≡ tally f (death_activities o phase [])
-  collections : (asked : Bool) (c : Collection) (phase : Phase) (pending : List ℕ) → tally f (collecting asked c (machine_phase phase pending)) ≡ tally f (collecting asked c (machine_phase phase []))
-
-commands_of_deaths : (o : ℕ) (phase : dying.Phase) (waiting : List ℕ) → tally commands_in (death_activities o phase waiting) ≡ tally commands_in (death_activities o phase [])
-commands_of_deaths o dying_phase.Finalizer waiting = refl
-commands_of_deaths o _ waiting = refl
-
-commands_of_collections : (asked : Bool) (c : Collection) (phase : Phase) (pending : List ℕ)
-    → tally commands_in (collecting asked c (machine_phase phase pending)) ≡ tally commands_in (collecting asked c (machine_phase phase []))
-commands_of_collections asked c phase_of.Start pending = refl
-commands_of_collections asked c _ pending = refl
-
-ranks_of_deaths : (o : ℕ) (phase : dying.Phase) (waiting : List ℕ) → tally rank_in (death_activities o phase waiting) ≡ tally rank_in (death_activities o phase [])
-ranks_of_deaths o dying_phase.Finalizer waiting = refl
-ranks_of_deaths o _ waiting = refl
-
-ranks_of_collections : (asked : Bool) (c : Collection) (phase : Phase) (pending : List ℕ) → tally rank_in (collecting asked c (machine_phase phase pending))
-    ≡ tally rank_in (collecting asked c (machine_phase phase []))
-ranks_of_collections asked c phase_of.Start pending = refl
-ranks_of_collections asked c _ pending = refl
-
-weights_of_deaths : (o : ℕ) (phase : dying.Phase) (waiting : List ℕ) → tally weight_in (death_activities o phase waiting) ≡ tally weight_in (death_activities o phase [])
-weights_of_deaths o dying_phase.Finalizer waiting = refl
-weights_of_deaths o _ waiting = refl
-
-weights_of_collections : (asked : Bool) (c : Collection) (phase : Phase) (pending : List ℕ) → tally weight_in (collecting asked c (machine_phase phase pending))
-    ≡ tally weight_in (collecting asked c (machine_phase phase []))
-weights_of_collections asked c phase_of.Start pending = refl
-weights_of_collections asked c _ pending = refl
+  deaths : Deaths f
+  collections : Collections f
 
 abbrev starting : machine.Activity → ℕ
 starting a = bit (is_starting a)
 
-starts_of_deaths : (o : ℕ) (phase : dying.Phase) (waiting : List ℕ) → tally starting (death_activities o phase waiting) ≡ tally starting (death_activities o phase [])
+commands_of_deaths : Deaths commands_in
+commands_of_deaths o dying_phase.Finalizer waiting = refl
+commands_of_deaths o _ waiting = refl
+
+commands_of_collections : Collections commands_in
+commands_of_collections asked c phase_of.Start pending = refl
+commands_of_collections asked c _ pending = refl
+
+ranks_of_deaths : Deaths rank_in
+ranks_of_deaths o dying_phase.Finalizer waiting = refl
+ranks_of_deaths o _ waiting = refl
+
+ranks_of_collections : Collections rank_in
+ranks_of_collections asked c phase_of.Start pending = refl
+ranks_of_collections asked c _ pending = refl
+
+weights_of_deaths : Deaths weight_in
+weights_of_deaths o dying_phase.Finalizer waiting = refl
+weights_of_deaths o _ waiting = refl
+
+weights_of_collections : Collections weight_in
+weights_of_collections asked c phase_of.Start pending = refl
+weights_of_collections asked c _ pending = refl
+
+starts_of_deaths : Deaths starting
 starts_of_deaths o dying_phase.Finalizer waiting = refl
 starts_of_deaths o _ waiting = refl
 
-starts_of_collections : (asked : Bool) (c : Collection) (phase : Phase) (pending : List ℕ) → tally starting (collecting asked c (machine_phase phase pending))
-    ≡ tally starting (collecting asked c (machine_phase phase []))
+starts_of_collections : Collections starting
 starts_of_collections asked c phase_of.Start pending = refl
 starts_of_collections asked c _ pending = refl
 
-module _ (objects : List Object) where
-  left_of_deaths : (o : ℕ) (phase : dying.Phase) (waiting : List ℕ) → tally (left_in objects) (death_activities o phase waiting) ≡ tally (left_in objects) (death_activities o phase [])
-  left_of_deaths o dying_phase.Finalizer waiting = refl
-  left_of_deaths o _ waiting = refl
+left_of_deaths : (objects : List Object) → Deaths (left_in objects)
+left_of_deaths objects o dying_phase.Finalizer waiting = refl
+left_of_deaths objects o _ waiting = refl
 
-  left_of_collections : (asked : Bool) (c : Collection) (phase : Phase) (pending : List ℕ) → tally (left_in objects)
-      (collecting asked c (machine_phase phase pending)) ≡ tally (left_in objects) (collecting asked c (machine_phase phase []))
-  left_of_collections asked c phase_of.Start pending = refl
-  left_of_collections asked c _ pending = refl
+left_of_collections : (objects : List Object) → Collections (left_in objects)
+left_of_collections objects asked c phase_of.Start pending = refl
+left_of_collections objects asked c _ pending = refl
 
 module _ (f : machine.Activity → ℕ) (blind : IsBlind f) (script : Script) where
   under_release : (release : Option Release) (xs ys : List machine.Activity) → tally f xs ≡ tally f ys → tally f (released_first release xs) ≡ tally f (released_first release ys)
@@ -183,13 +145,10 @@ module _ (f : machine.Activity → ℕ) (blind : IsBlind f) (script : Script) wh
       (blind.collections asked c c.phase pending)
 
   one : (a : Activity) (tops : List machine.Activity) → ActivityShows script a tops → tally f tops ≡ tally f (shown script a)
-  one (activity.Script next) tops e = ap (tally f) e
-  one (activity.Frame locals procedure next) tops e = ap (tally f) e
-  one (activity.Releasing release) tops e = ap (tally f) e
-  one (activity.Shutdown started) tops e = ap (tally f) e
   one (activity.Dying death) tops (waiting, e, settled) = ap (tally f) e ∙ under_release death.release (death_activities death.object death.phase waiting)
       (death_activities death.object death.phase []) (blind.deaths death.object death.phase waiting)
   one (activity.Collecting asked c) tops s = ap (tally f) s.shown ∙ collection_alike asked c (list_at s.then Pend)
+  one _ tops e = ap (tally f) e
 
   same_tally : (activities : List Activity) (stack : List machine.Activity) → ShowsAll script activities stack → tally f stack ≡ tally f (flat_map (shown script) activities)
   same_tally [] stack e = ap (tally f) e
@@ -275,9 +234,7 @@ begun_numbers asked c _ release pending below generation numbers none = refl
 -- the heap after the remaining lines are printed has the same names
 names_after : (phase : Phase) (store : Store) → (store_after phase store).names ≡ store.names
 names_after (phase_of.Living next) store = refl
-names_after (phase_of.Detaching next) store = refl
-names_after (phase_of.Unlinking member weak) store = refl
-names_after phase store = refl
+names_after _ store = refl
 
 -- the number of a world that an engine represents after its lines are printed
 pub same_number : (script : Script) (e : State) (left : List Event) (w : World) → StandsWith script e left w → number_of script w ≡ number_of script (world_from script e)

@@ -43,16 +43,8 @@ use Rattle.cg_interp.proofs.Sizes.{IsSmall}
 shown_detects_none : (release : Option Release) (o : ℕ) (phase : Phase) (waiting : List ℕ) (below : List Activity)
     → released_first release (death_activities o phase waiting) ≢ [] → detects (released_first release (death_activities o phase waiting) ++ below) ≡ false
 shown_detects_none (Some release) o phase waiting below some = refl
-shown_detects_none None o phase_of.Finalizer waiting below some = refl
-shown_detects_none None o phase_of.AfterFinalizer waiting below some = refl
-shown_detects_none None o phase_of.Clearing waiting below some = refl
-shown_detects_none None o phase_of.Calling waiting below some = refl
-shown_detects_none None o (phase_of.AfterCall weak callback) waiting below some = refl
-shown_detects_none None o phase_of.LegacyFinalizer waiting below some = refl
-shown_detects_none None o phase_of.AfterLegacy waiting below some = refl
-shown_detects_none None o phase_of.Detaching waiting below some = refl
-shown_detects_none None o phase_of.Emptying waiting below some = refl
 shown_detects_none None o phase_of.Over waiting below some = absurd (some refl)
+shown_detects_none None o _ waiting below some = refl
 
 pub death_detects_none : (script : Script) (e : State) (death : Death) (w : World) → StandsFor script (under (activity.Dying death) e) w → detects w.stack ≡ false
 death_detects_none script e death w stands =
@@ -65,15 +57,7 @@ actions_left death store = (8 - pass_of death.phase) * 30000000 + number_left de
 
 few_passes : (phase : Phase) → (pass_of phase ≤ 8) × (own_holds phase ≤ 2)
 few_passes phase_of.Finalizer = (omega arith, omega arith)
-few_passes phase_of.AfterFinalizer = (omega arith, omega arith)
-few_passes phase_of.Clearing = (omega arith, omega arith)
-few_passes phase_of.Calling = (omega arith, omega arith)
-few_passes (phase_of.AfterCall weak callback) = (omega arith, omega arith)
-few_passes phase_of.LegacyFinalizer = (omega arith, omega arith)
-few_passes phase_of.AfterLegacy = (omega arith, omega arith)
-few_passes phase_of.Detaching = (omega arith, omega arith)
-few_passes phase_of.Emptying = (omega arith, omega arith)
-few_passes phase_of.Over = (omega arith, omega arith)
+few_passes _ = (omega arith, omega arith)
 
 few_references : (first second : Option ℕ) → length (option_to_list first ++ option_to_list second) ≤ 2
 few_references None None = omega arith
@@ -185,10 +169,4 @@ pub calls_none : (phase : Phase) (sort : FrameSort) → CallsAt phase sort → s
 calls_none phase_of.Finalizer sort calls is = let clash : sort_of.Del ≡ sort_of.Call = sym calls ∙ is in cc
 calls_none phase_of.Calling sort calls is = let clash : sort_of.Callback ≡ sort_of.Call = sym calls ∙ is in cc
 calls_none phase_of.LegacyFinalizer sort calls is = let clash : sort_of.Legacy ≡ sort_of.Call = sym calls ∙ is in cc
-calls_none phase_of.AfterFinalizer sort calls is = absurd calls
-calls_none phase_of.Clearing sort calls is = absurd calls
-calls_none (phase_of.AfterCall weak callback) sort calls is = absurd calls
-calls_none phase_of.AfterLegacy sort calls is = absurd calls
-calls_none phase_of.Detaching sort calls is = absurd calls
-calls_none phase_of.Emptying sort calls is = absurd calls
-calls_none phase_of.Over sort calls is = absurd calls
+calls_none _ sort calls is = absurd calls

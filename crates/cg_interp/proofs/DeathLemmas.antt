@@ -17,7 +17,7 @@ use Rattle.cg_machine.specs.declared.event.Event.TheVariants.{Enter, BudgetSpent
 use Rattle.cg_machine.specs.declared.event.FrameSpec.{FrameSpec}
 use Rattle.cg_machine.specs.Holdings.{is_death_of}
 use Rattle.cg_machine.specs.Frame.{Transition, begin_death, start_frame}
-use Rattle.cg_represents.specs.Represents.{Represents, Goes}
+use Rattle.cg_represents.specs.Represents.{Represents}
 use Rattle.cg_machine.specs.Run.{StepTaken, events_of, last_world}
 use Rattle.cg_death.specs.declared.release.Release.{Release}
 use Rattle.cg_death.specs.declared.phase.Phase.{Phase}
@@ -28,12 +28,12 @@ use Rattle.cg_death.specs.declared.answer.DeathStep.{DeathStep}
 use Rattle.cg_death.specs.declared.answer.DeathStep.TheVariants as answer_of
 use Rattle.cg_death.specs.Answers.{DeathSteps, DeathAnswer, WentOn, GaveDeath, GaveFrame, DeathKeeps as KeepsWorld, numbers_after}
 use Rattle.cg_interp.specs.declared.turned.Turned.{Turned}
-use Rattle.cg_interp.specs.declared.turned.Turned.TheVariants as turned
 use Rattle.cg_death.specs.Deaths.{on_stack, DeathFalls, HasCause, IsSettled}
 use Rattle.cg_interp.specs.declared.activity.Activity.TheVariants as activity
 use Rattle.cg_policy.specs.Policy.{Policy, with_numbers}
 use Rattle.cg_interp.specs.Engines.{State, StandsFor, ShowsAll, released_first, death_shown, under, any_collecting}
 use Rattle.cg_interp.specs.Turns.{DyingIsSound, Makes, Turns, GoesTo, GivesDeath, StaysOn}
+use Rattle.cg_interp.proofs.AnswersOfTurns.{reaches}
 use Rattle.cg_interp.proofs.DeathMoves.{no_fall, no_death_on_top}
 
 -- a death as an activity, given the weak references that wait in the heap
@@ -107,17 +107,11 @@ dies script old new o death w stands represents shown settled policy top budget 
 waits_known : (store : Store) (w : World) (o : ℕ) (phase : Phase) (waiting : List ℕ) → Represents store w
     → ((d : machine.Death) → Includes (death_activities o phase waiting) (Dying d) → Includes w.stack (Dying d))
     → death_activities o phase waiting ≡ death_activities o phase (waiting_for store o)
-waits_known store w o phase_of.Finalizer waiting r inside = refl
-waits_known store w o phase_of.AfterFinalizer waiting r inside = refl
 waits_known store w o phase_of.Clearing waiting r inside = ap (λ l. death_of o (machine.Clearing l) ∷ []) (r.deaths (record { object = o; phase = machine.Clearing waiting }) (inside _ (inl refl)))
 waits_known store w o phase_of.Calling waiting r inside = ap (λ l. death_of o (machine.Calling l) ∷ []) (r.deaths (record { object = o; phase = machine.Calling waiting }) (inside _ (inl refl)))
 waits_known store w o (phase_of.AfterCall weak callback) waiting r inside = ap (λ l. death_of o (machine.AfterCall weak callback l) ∷ [])
     (r.deaths (record { object = o; phase = machine.AfterCall weak callback waiting }) (inside _ (inl refl)))
-waits_known store w o phase_of.LegacyFinalizer waiting r inside = refl
-waits_known store w o phase_of.AfterLegacy waiting r inside = refl
-waits_known store w o phase_of.Detaching waiting r inside = refl
-waits_known store w o phase_of.Emptying waiting r inside = refl
-waits_known store w o phase_of.Over waiting r inside = refl
+waits_known store w o _ waiting r inside = refl
 
 within : (release : Option Release) (rest below : List Activity) (a : Activity) → Includes rest a → Includes (released_first release rest ++ below) a
 within None rest below a m = Includes-append_left rest below a m
@@ -132,86 +126,12 @@ prints_moves : (steps : List StepTaken) (event : Event) (events : List Event) �
 prints_moves steps event events prints none = let clash : [] ≡ event ∷ events = ap events_of (sym none) ∙ prints in absurd (cc)
 
 -- so the start of a frame has one
-starts_moves : (script : Script) (spec : FrameSpec) (w : World) (steps : List StepTaken) → events_of steps ≡ (start_frame script spec w).0 → steps ≢ []
+pub starts_moves : (script : Script) (spec : FrameSpec) (w : World) (steps : List StepTaken) → events_of steps ≡ (start_frame script spec w).0 → steps ≢ []
 starts_moves script spec w steps prints = by (w.budget == 0) _ _ prints
   where
     by : (b : Bool) (spent entered : World) → events_of steps ≡ (if◌then◌else◌ {A = Transition} b (BudgetSpent ∷ [], spent) (Enter spec.sort spec.subject ∷ [], entered)).0 → steps ≢ []
     by true spent entered is = prints_moves steps BudgetSpent [] is
     by false spent entered is = prints_moves steps (Enter spec.sort spec.subject) [] is
-
--- a transition that the machine reached
-comes : (script : Script) (w : World) (e : State) (t : Transition) (answer : Turned) → (goes : Goes script w t.0 t.1) → goes.steps ≢ [] → Makes script t e answer → Turns script w e answer
-comes script w e t turned.Quiet goes moves makes = record {
-  after = t.1;
-  goes = record {
-    steps = goes.steps;
-    run = goes.run;
-    prints = goes.prints ∙ makes.0;
-    ends = goes.ends;
-    alone = goes.alone;
-  };
-  moves = moves;
-  stands = makes.1;
-}
-comes script w e t (turned.Line event) goes moves makes = record {
-  after = t.1;
-  goes = record {
-    steps = goes.steps;
-    run = goes.run;
-    prints = goes.prints
-        ∙ makes.0;
-    ends = goes.ends;
-    alone = goes.alone;
-  };
-  moves = moves;
-  stands = makes.1;
-}
-comes script w e t (turned.Lines events) goes moves makes = record {
-  after = t.1;
-  goes = record {
-    steps = goes.steps;
-    run = goes.run;
-    prints = goes.prints
-        ∙ makes.0;
-    ends = goes.ends;
-    alone = goes.alone;
-  };
-  moves = moves;
-  stands = makes.1;
-}
-comes script w e t turned.Ended goes moves makes = record {
-  after = t.1;
-  goes = record {
-    steps = goes.steps;
-    run = goes.run;
-    prints = goes.prints ∙ makes.0;
-    ends = goes.ends;
-    alone = goes.alone;
-  };
-  ended = makes.1;
-}
-comes script w e t (turned.Left n) goes moves makes = record {
-  after = t.1;
-  goes = record {
-    steps = goes.steps;
-    run = goes.run;
-    prints = goes.prints ∙ makes.0;
-    ends = goes.ends;
-    alone = goes.alone;
-  };
-  ended = makes.1;
-}
-comes script w e t turned.Spent goes moves makes = record {
-  after = t.1;
-  goes = record {
-    steps = goes.steps;
-    run = goes.run;
-    prints = goes.prints ∙ makes.0;
-    ends = goes.ends;
-    alone = goes.alone;
-  };
-  ended = makes.1;
-}
 
 -- what of a death on top is on the stack
 module _ (script : Script) (e : State) (death : Death) (w : World) (stands : StandsFor script (under (activity.Dying death) e) w) where
@@ -346,6 +266,6 @@ module _ (script : Script) (old new : State) (death after_death : Death) (answer
   death_calls spec final turned_to is policy starts = go (subst (DeathAnswer script w new.store (on_stack after_death new.store ++ rest)) is says)
     where
       go : GaveFrame script w spec new.store (on_stack after_death new.store ++ rest) → Turns script w final turned_to
-      go gave = comes script w final (start_frame script spec gave.hands.before) turned_to gave.hands.goes (starts_moves script spec gave.hands.before
-          gave.hands.goes.steps gave.hands.goes.prints) (starts gave.hands.before (handed policy gave.hands.before gave.hands.represents gave.hands.top
-          gave.keeps))
+      go gave = reaches script w final (start_frame script spec gave.hands.before) gave.hands.goes (starts_moves script spec gave.hands.before
+          gave.hands.goes.steps gave.hands.goes.prints) turned_to (starts gave.hands.before (handed policy gave.hands.before gave.hands.represents
+          gave.hands.top gave.keeps))

@@ -11,7 +11,7 @@ use Rattle.cg_graph.proofs.Objects.{object-at}
 use Rattle.cg_graph.proofs.Members.{true_and}
 use Rattle.cg_heap.specs.Weak.{AreRows}
 use Rattle.cg_machine.specs.World as machine
-use Rattle.cg_machine.specs.World.{World, Activity, TopLevel, Framed, Releasing, Dying, Collecting, Finalizer, ShuttingDown}
+use Rattle.cg_machine.specs.World.{World, Activity, Releasing, Dying, Finalizer}
 use Rattle.cg_represents.specs.Represents.{Represents}
 use Rattle.cg_death.specs.declared.release.Release.{Release}
 use Rattle.cg_death.specs.declared.phase.Phase.{Phase}
@@ -64,55 +64,39 @@ module _ (a b : Store) (w : World) (in_a : Represents a w) (in_b : Represents b 
   same_weak rows_a rows_b = sym (rows_of_world a w in_a rows_a o) ∙ rows_of_world b w in_b rows_b o
 
 -- How far a death is, according to the stack.
+abbrev pass_in : machine.DyingPhase → ℕ
+pass_in machine.Finalizer = 0
+pass_in machine.AfterFinalizer = 1
+pass_in (machine.Clearing waiting) = 2
+pass_in (machine.Calling waiting) = 3
+pass_in (machine.AfterCall weak callback waiting) = 3
+pass_in machine.LegacyFinalizer = 4
+pass_in machine.AfterLegacy = 5
+pass_in machine.Detaching = 6
+pass_in machine.Emptying = 7
+
 pass_shown : List Activity → ℕ
 pass_shown [] = 8
-pass_shown (TopLevel commands ∷ below) = 0
-pass_shown (Framed f ∷ below) = 0
-pass_shown (Releasing references ∷ below) = 0
-pass_shown (Collecting c ∷ below) = 0
-pass_shown (ShuttingDown started ∷ below) = 0
-pass_shown (Dying d ∷ below) = by d.phase
-  where
-    by : machine.DyingPhase → ℕ
-    by machine.Finalizer = 0
-    by machine.AfterFinalizer = 1
-    by (machine.Clearing waiting) = 2
-    by (machine.Calling waiting) = 3
-    by (machine.AfterCall weak callback waiting) = 3
-    by machine.LegacyFinalizer = 4
-    by machine.AfterLegacy = 5
-    by machine.Detaching = 6
-    by machine.Emptying = 7
+pass_shown (Dying d ∷ below) = pass_in d.phase
+pass_shown _ = 0
+
+abbrev holds_in : machine.DyingPhase → ℕ
+holds_in machine.AfterFinalizer = 1
+holds_in (machine.AfterCall weak callback waiting) = 2
+holds_in machine.AfterLegacy = 1
+holds_in _ = 0
 
 holds_shown : List Activity → ℕ
-holds_shown [] = 0
-holds_shown (TopLevel commands ∷ below) = 0
-holds_shown (Framed f ∷ below) = 0
-holds_shown (Releasing references ∷ below) = 0
-holds_shown (Collecting c ∷ below) = 0
-holds_shown (ShuttingDown started ∷ below) = 0
-holds_shown (Dying d ∷ below) = by d.phase
-  where
-    by : machine.DyingPhase → ℕ
-    by machine.Finalizer = 0
-    by machine.AfterFinalizer = 1
-    by (machine.Clearing waiting) = 0
-    by (machine.Calling waiting) = 0
-    by (machine.AfterCall weak callback waiting) = 2
-    by machine.LegacyFinalizer = 0
-    by machine.AfterLegacy = 1
-    by machine.Detaching = 0
-    by machine.Emptying = 0
+holds_shown (Dying d ∷ below) = holds_in d.phase
+holds_shown _ = 0
 
 released_shown : List Activity → ℕ
-released_shown [] = 0
 released_shown (Releasing references ∷ below) = length references
-released_shown (a ∷ below) = 0
+released_shown _ = 0
 
 under_release : List Activity → List Activity
-under_release [] = []
 under_release (Releasing references ∷ below) = below
-under_release (a ∷ below) = a ∷ below
+under_release stack = stack
 
 -- The stack shows how far it is.
 record IsShown (o : ℕ) (phase : Phase) (waiting : List ℕ) : Type 0 where
@@ -124,15 +108,7 @@ record IsShown (o : ℕ) (phase : Phase) (waiting : List ℕ) : Type 0 where
 is_shown : (o : ℕ) (phase : Phase) (waiting : List ℕ) → IsShown o phase waiting
 unfolding pass_shown holds_shown released_shown under_release
 is_shown o phase_of.Finalizer waiting = record { pass = refl; own = refl; none = refl; under = refl }
-is_shown o phase_of.AfterFinalizer waiting = record { pass = refl; own = refl; none = refl; under = refl }
-is_shown o phase_of.Clearing waiting = record { pass = refl; own = refl; none = refl; under = refl }
-is_shown o phase_of.Calling waiting = record { pass = refl; own = refl; none = refl; under = refl }
-is_shown o (phase_of.AfterCall weak callback) waiting = record { pass = refl; own = refl; none = refl; under = refl }
-is_shown o phase_of.LegacyFinalizer waiting = record { pass = refl; own = refl; none = refl; under = refl }
-is_shown o phase_of.AfterLegacy waiting = record { pass = refl; own = refl; none = refl; under = refl }
-is_shown o phase_of.Detaching waiting = record { pass = refl; own = refl; none = refl; under = refl }
-is_shown o phase_of.Emptying waiting = record { pass = refl; own = refl; none = refl; under = refl }
-is_shown o phase_of.Over waiting = record { pass = refl; own = refl; none = refl; under = refl }
+is_shown o _ waiting = record { pass = refl; own = refl; none = refl; under = refl }
 
 -- the same with references to give up above it
 record AreShown (o : ℕ) (phase : Phase) (release : Option Release) (store : Store) : Type 0 where
@@ -190,15 +166,7 @@ no_death_on_top death store q rest other is = by death.phase death.release is
   where
     bare : (phase : Phase) (waiting : List ℕ) → death_of q Finalizer ∷ rest ≡ death_activities death.object phase waiting → ⊥
     bare phase_of.Finalizer waiting e = other (ap object_shown e)
-    bare phase_of.AfterFinalizer waiting e = let pass : 0 ≡ 1 = ap pass_shown e in absurd (omega (arith, pass))
-    bare phase_of.Clearing waiting e = let pass : 0 ≡ 2 = ap pass_shown e in absurd (omega (arith, pass))
-    bare phase_of.Calling waiting e = let pass : 0 ≡ 3 = ap pass_shown e in absurd (omega (arith, pass))
-    bare (phase_of.AfterCall weak callback) waiting e = let pass : 0 ≡ 3 = ap pass_shown e in absurd (omega (arith, pass))
-    bare phase_of.LegacyFinalizer waiting e = let pass : 0 ≡ 4 = ap pass_shown e in absurd (omega (arith, pass))
-    bare phase_of.AfterLegacy waiting e = let pass : 0 ≡ 5 = ap pass_shown e in absurd (omega (arith, pass))
-    bare phase_of.Detaching waiting e = let pass : 0 ≡ 6 = ap pass_shown e in absurd (omega (arith, pass))
-    bare phase_of.Emptying waiting e = let pass : 0 ≡ 7 = ap pass_shown e in absurd (omega (arith, pass))
-    bare phase_of.Over waiting e = let pass : 0 ≡ 8 = ap pass_shown e in absurd (omega (arith, pass))
+    bare phase waiting e = let pass : 0 ≡ pass_of phase = ap pass_shown e ∙ (is_shown death.object phase waiting).pass in absurd (omega (arith, pass))
 
     by : (phase : Phase) (release : Option Release) → death_of q Finalizer ∷ rest ≡ activities death.object phase release store → ⊥
     by phase None e = bare phase (waiting_for store death.object) e

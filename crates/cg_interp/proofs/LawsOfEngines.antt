@@ -1,8 +1,9 @@
 -- What the laws of the machine say of a world that an engine represents.
-use Rattle.std.proofs.Common.{◌≡◌, ◌≢◌, refl, sym, ◌∙◌, ap, ℕ, ◌+◌, ◌<◌, ◌≤◌, Bool, true, false, cond, inl, inr, List, [], ◌∷◌, Option, None, Some, map, length, length-append, arith, sum_by}
+use Rattle.std.proofs.Common.{◌≡◌, ◌≢◌, refl, sym, ◌∙◌, ap, ℕ, ◌+◌, ◌<◌, ◌≤◌, Bool, true, false, cond, inl, inr, List, [], ◌∷◌, Option, None, Some, length, length-append, arith, sum_by}
 use Rattle.std.specs.Prelude.{◌==◌, count_by, flat_map, option_map, is_some}
 use Rattle.std.specs.FinMap as fin
 use Rattle.std.proofs.lemmas.Bool.{eqb-true, eq-eqb, ne_eqb}
+use Rattle.std.proofs.lemmas.List.{length-map}
 use Rattle.std.proofs.lemmas.List.Sums.{sum_by-cons}
 use Rattle.cg_script.specs.declared.Script.{Script}
 use Rattle.cg_graph.specs.Maps.{mapped, total}
@@ -16,7 +17,7 @@ use Rattle.cg_heap.specs.Keeps.{outside_total, one}
 use Rattle.cg_heap.specs.Calls.{HasFewHolds, object_number}
 use Rattle.cg_heap.proofs.HoldLemmas.{outside-unheld}
 use Rattle.cg_heap.proofs.CallerLemmas.{total-unheld_one}
-use Rattle.cg_machine.specs.World.{World, Activity, TopLevel, Framed, Releasing, Dying, Collecting, Death, ShuttingDown}
+use Rattle.cg_machine.specs.World.{World, Activity, Dying, Death}
 use Rattle.cg_machine.specs.Holdings.{holds, is_death_of}
 use Rattle.cg_represents.specs.Orderly.{AreDeathsOfOthers}
 use Rattle.cg_laws.specs.Lawful.{IsLawful}
@@ -34,23 +35,14 @@ count_more o a below = sum_by-cons (λ (b : Activity). cond {A = ℕ} (is_death_
 -- no death of an object
 no_deaths : (o : ℕ) (stack : List Activity) → ((e : Death) → Includes stack (Dying e) → e.object ≢ o) → count_by (is_death_of o) stack ≡ 0
 no_deaths o [] none = refl
-no_deaths o (TopLevel commands ∷ below) none = omega (arith, count_more o (TopLevel commands) below, no_deaths o below (λ e m. none e (inr m)))
-no_deaths o (Framed f ∷ below) none = omega (arith, count_more o (Framed f) below, no_deaths o below (λ e m. none e (inr m)))
-no_deaths o (Releasing references ∷ below) none = omega (arith, count_more o (Releasing references) below, no_deaths o below (λ e m. none e (inr m)))
-no_deaths o (Collecting c ∷ below) none = omega (arith, count_more o (Collecting c) below, no_deaths o below (λ e m. none e (inr m)))
-no_deaths o (ShuttingDown started ∷ below) none = omega (arith, count_more o (ShuttingDown started) below, no_deaths o below (λ e m. none e (inr m)))
 no_deaths o (Dying d ∷ below) none =
     let zero : cond {A = ℕ} (d.object == o) 1 0 ≡ 0 = ap (λ b. cond {A = ℕ} b 1 0) (ne_eqb d.object o (none d (inl refl))) in
     omega (arith, count_more o (Dying d) below, zero, no_deaths o below (λ e m. none e (inr m)))
+no_deaths o (a ∷ below) none = omega (arith, count_more o a below, no_deaths o below (λ e m. none e (inr m)))
 
 -- no object dies twice
 dying_once : (o : ℕ) (stack : List Activity) → AreDeathsOfOthers stack → count_by (is_death_of o) stack ≤ 1
 dying_once o [] others = omega arith
-dying_once o (TopLevel commands ∷ below) others = omega (arith, count_more o (TopLevel commands) below, dying_once o below others.1)
-dying_once o (Framed f ∷ below) others = omega (arith, count_more o (Framed f) below, dying_once o below others.1)
-dying_once o (Releasing references ∷ below) others = omega (arith, count_more o (Releasing references) below, dying_once o below others.1)
-dying_once o (Collecting c ∷ below) others = omega (arith, count_more o (Collecting c) below, dying_once o below others.1)
-dying_once o (ShuttingDown started ∷ below) others = omega (arith, count_more o (ShuttingDown started) below, dying_once o below others.1)
 dying_once o (Dying d ∷ below) others = go (d.object == o) refl (dying_once o below others.1)
   where
     go : (b : Bool) → (d.object == o) ≡ b → count_by (is_death_of o) below ≤ 1 → count_by (is_death_of o) (Dying d ∷ below) ≤ 1
@@ -61,6 +53,7 @@ dying_once o (Dying d ∷ below) others = go (d.object == o) refl (dying_once o 
     go false e rest =
         let zero : cond {A = ℕ} (d.object == o) 1 0 ≡ 0 = ap (λ b. cond {A = ℕ} b 1 0) e in
         omega (arith, count_more o (Dying d) below, rest, zero)
+dying_once o (a ∷ below) others = omega (arith, count_more o a below, dying_once o below others.1)
 
 -- what holds of the deaths in a lawful world
 pub dying_sound : (script : Script) (budget : ℕ) (w : World) → IsLawful script budget w → DyingIsSound w
@@ -79,6 +72,12 @@ at_least script (top ∷ activities) stack shows = by shows.tops shows.some (ap 
     by (a ∷ tops) some sum rest = omega (arith, sum, rest)
 
 -- so there is room on the stack
+pub room_left : (script : Script) (e : State) (w : World) → StandsFor script e w → IsLawful script e.first_budget w → IsFit script e → 3 < e.room
+room_left script e w stands lawful fit =
+    let same : length (objects_of e.store) ≡ length w.objects = ap length stands.represents.objects in
+    omega (arith, at_least script e.activities w.stack stands.shows, same, lawful.bounded.height, fit.room)
+
+-- and without its top
 pub has_room : (script : Script) (top : Own) (e : State) (w : World) → StandsFor script (under top e) w → IsLawful script e.first_budget w → IsFit script e → 4 < e.room
 has_room script top e w stands lawful fit =
     let shown : length (top ∷ e.activities) ≤ length w.stack = at_least script (top ∷ e.activities) w.stack stands.shows in
@@ -141,9 +140,13 @@ few_holds script budget store w represents lawful low few =
     let same : length (objects_of store) ≡ length w.objects = ap length represents.objects in
     omega (arith, held, same, lawful.bounded.holds, low, few)
 
+-- as many objects as the heap counts, and the garbage list
+ones : (es : List (ℕ × Node)) → length es ≡ sum_by (λ (e : ℕ × Node). one e.1) es
+ones [] = refl
+ones (e ∷ es) = let rest = ones es in omega (arith, rest, sum_by-cons (λ (e : ℕ × Node). one e.1) e es)
+
+pub objects-number : (store : Store) → length (objects_of store) ≤ object_number store + 1
+objects-number store = omega (arith, length-map (fin.entries store.nodes) (λ (e : ℕ × Node). object_from store.rows e.0 e.1), ones (fin.entries store.nodes))
+
 pub few_objects : (store : Store) → object_number store ≤ 1000000 → length (objects_of store) ≤ 1000001
-few_objects store low = let nodes : total one store.nodes ≡ length (objects_of store) = each (fin.entries store.nodes) in omega (arith, low, nodes)
-  where
-    each : (es : List (ℕ × Node)) → sum_by (λ (e : ℕ × Node). one e.1) es ≡ length (map (λ (e : ℕ × Node). object_from store.rows e.0 e.1) es)
-    each [] = refl
-    each (e ∷ es) = omega (arith, sum_by-cons (λ (e : ℕ × Node). one e.1) e es, each es)
+few_objects store low = omega (arith, low, objects-number store)

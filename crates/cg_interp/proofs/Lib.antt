@@ -1,4 +1,6 @@
 mod CollectionSeats
+mod TopDeaths
+mod TopCollections
 mod NextCommands
 mod FirstEngine
 mod Counting
@@ -32,8 +34,10 @@ mod AnswersOfTurns
 mod SilentTurns
 mod GivingUp
 mod DeathActions
+mod DeathTurns
 mod CollectionUnderWay
 mod TurnLemmas
+mod TopSteps
 mod KeptLines
 mod RecordText
 mod ShownGraphs

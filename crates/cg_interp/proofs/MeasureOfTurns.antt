@@ -56,13 +56,8 @@ some_way = omega (arith, some_pass)
 
 -- how far a collection on top is from its end; 0 without one
 abbrev pub way_left : List Activity → Store → ℕ
-way_left [] store = 0
-way_left (activity.Script next ∷ below) store = 0
-way_left (activity.Frame locals procedure next ∷ below) store = 0
-way_left (activity.Releasing release ∷ below) store = 0
-way_left (activity.Shutdown started ∷ below) store = 0
-way_left (activity.Dying death ∷ below) store = 0
 way_left (activity.Collecting asked c ∷ below) store = (16 - pass_of c.phase) * pass_limit + (left_in_pass c.phase store + still_released c.release)
+way_left _ store = 0
 
 -- The number that falls: first the machine's, then the remaining lines, then the distance of the collection.
 abbrev pub falling : Script → State → ℕ
@@ -272,24 +267,14 @@ module _ (store : Store) (small : IsSmall store) where
   in_pass_few c = omega (arith, pass_few c.phase, released_few c.release)
 
   way_few : (activities : List Activity) → way_left activities store < 17 * pass_limit
-  way_few [] = some_way
-  way_few (activity.Script next ∷ below) = some_way
-  way_few (activity.Frame locals procedure next ∷ below) = some_way
-  way_few (activity.Releasing release ∷ below) = some_way
-  way_few (activity.Shutdown started ∷ below) = some_way
-  way_few (activity.Dying death ∷ below) = some_way
   way_few (activity.Collecting asked c ∷ below) =
       let passes : (16 - pass_of c.phase) * pass_limit ≤ 16 * pass_limit = product (16 - pass_of c.phase) 16 pass_limit pass_limit (omega arith) (omega arith) in
       omega (arith, passes, in_pass_few c)
+  way_few _ = some_way
 
   few_lines : (script : Script) (activities : List Activity) → length (lines_of script activities store) < lines_limit
-  few_lines script [] = some_lines
-  few_lines script (activity.Script next ∷ below) = some_lines
-  few_lines script (activity.Frame locals procedure next ∷ below) = some_lines
-  few_lines script (activity.Releasing release ∷ below) = some_lines
-  few_lines script (activity.Shutdown started ∷ below) = some_lines
-  few_lines script (activity.Dying death ∷ below) = some_lines
   few_lines script (activity.Collecting asked c ∷ below) = lines_few script asked c c.phase
+  few_lines script _ = some_lines
 
 -- A collection that comes nearer to its end has a smaller distance.
 passes_few : (phase : Phase) → pass_of phase < 16
@@ -300,12 +285,6 @@ further : (a b l m limit : ℕ) → a < b → l < limit → a * limit + l < b * 
 further a b l m limit less few = omega (arith, product (suc a) b limit limit (omega (arith, less)) (omega arith), few)
 
 pub shorter : (activities below : List Activity) (old new : Store) → IsSmall new → IsNearer activities old below new → way_left below new < way_left activities old
-shorter [] below old new small near = absurd near
-shorter (activity.Script next ∷ rest) below old new small near = absurd near
-shorter (activity.Frame locals procedure next ∷ rest) below old new small near = absurd near
-shorter (activity.Releasing release ∷ rest) below old new small near = absurd near
-shorter (activity.Shutdown started ∷ rest) below old new small near = absurd near
-shorter (activity.Dying death ∷ rest) below old new small near = absurd near
 shorter (activity.Collecting asked c ∷ rest) below old new small near = go below near
   where
     over : 0 < (16 - pass_of c.phase) * pass_limit + (left_in_pass c.phase old + still_released c.release)
@@ -313,18 +292,14 @@ shorter (activity.Collecting asked c ∷ rest) below old new small near = go bel
 
     go : (below : List Activity) → IsNearer (activity.Collecting asked c ∷ rest) old below new → way_left below new < (16 - pass_of c.phase) * pass_limit +
         (left_in_pass c.phase old + still_released c.release)
-    go [] near = over
-    go (activity.Script next ∷ below) near = over
-    go (activity.Frame locals procedure next ∷ below) near = over
-    go (activity.Releasing release ∷ below) near = over
-    go (activity.Shutdown started ∷ below) near = over
-    go (activity.Dying death ∷ below) near = over
     go (activity.Collecting also d ∷ below) (inl later) =
         further (16 - pass_of d.phase) (16 - pass_of c.phase) (left_in_pass d.phase new + still_released d.release) (left_in_pass c.phase old + still_released
         c.release) pass_limit (omega (arith, later, passes_few d.phase)) (in_pass_few new small d)
     go (activity.Collecting also d ∷ below) (inr (same, less)) =
         let passes : (16 - pass_of d.phase) * pass_limit ≡ (16 - pass_of c.phase) * pass_limit = ap (λ p. (16 - p) * pass_limit) (sym same) in
         omega (arith, passes, less)
+    go _ near = over
+shorter _ below old new small near = absurd near
 
 -- The first of three numbers that changes falls.
 module _ (lines_most way_most : ℕ) where

@@ -1,5 +1,5 @@
 -- The top of an engine determines the machine's next reachability pass.
-use Rattle.std.proofs.Common.{◌≡◌, ◌≢◌, refl, sym, ◌∙◌, ap, subst, ℕ, ◌≤◌, Bool, true, false, ◌||◌, inl, inr, List, [], ◌∷◌, ◌++◌, Option, None, Some, length, arith}
+use Rattle.std.proofs.Common.{◌≡◌, ◌≢◌, refl, sym, ◌∙◌, ap, subst, ℕ, Bool, true, false, ◌||◌, inl, inr, List, [], ◌∷◌, ◌++◌, Option, None, Some, length, arith}
 use Rattle.cg_script.specs.declared.Script.{Script}
 use Rattle.cg_graph.specs.Store.{Store, list_at}
 use Rattle.cg_value.specs.declared.Place.TheVariants.{Pend}
@@ -14,8 +14,6 @@ use Rattle.cg_death.specs.Activities.{death_activities}
 use Rattle.cg_collect.specs.declared.collection.Collection.{Collection}
 use Rattle.cg_collect.specs.declared.phase.Phase.{Phase}
 use Rattle.cg_collect.specs.declared.phase.Phase.TheVariants as phase_of
-use Rattle.cg_collect.specs.declared.stage.Stage.{Stage}
-use Rattle.cg_collect.specs.declared.stage.Stage.TheVariants as stage
 use Rattle.cg_collect.specs.declared.stage.Detection.{Detection as Detected}
 use Rattle.cg_collect.specs.declared.stage.Detection.TheVariants as detected_of
 use Rattle.cg_collect.specs.Stages.{stage_of, stage_at, stage_after}
@@ -30,7 +28,7 @@ use Rattle.cg_interp.specs.declared.activity.Activity.{Activity}
 use Rattle.cg_interp.specs.declared.activity.Activity.TheVariants as activity
 use Rattle.cg_interp.specs.Engines.{State, ShowsTop, ShowsAll, released_first, death_shown, is_collecting, any_collecting}
 use Rattle.cg_interp.specs.Collecting.{StandsWith, CollectsOnTop}
-use Rattle.cg_interp.specs.Graphs.{detection_by, detection_on, AreOfGenerations}
+use Rattle.cg_interp.specs.Graphs.{detection_by, detection_on}
 use Rattle.cg_interp.specs.Recorded.{detection_at, next_detection}
 
 -- after a pass none comes next
@@ -91,14 +89,11 @@ death_none d waiting below some = go d.release some
 
 module _ (script : Script) (rest : List machine.Activity → Type 0) (stack : List machine.Activity) where
   top_none : (top : Activity) → is_collecting top ≡ false → ShowsTop script top rest stack → next_detection stack ≡ None
-  top_none (activity.Script next) other t = ap next_detection (t.is ∙ ap (λ l. l ++ t.below) t.shows)
-  top_none (activity.Frame locals procedure next) other t = ap next_detection (t.is ∙ ap (λ l. l ++ t.below) t.shows)
-  top_none (activity.Releasing release) other t = ap next_detection (t.is ∙ ap (λ l. l ++ t.below) t.shows)
-  top_none (activity.Shutdown started) other t = ap next_detection (t.is ∙ ap (λ l. l ++ t.below) t.shows)
   top_none (activity.Dying d) other t =
       ap next_detection (t.is ∙ ap (λ l. l ++ t.below) t.shows.1)
       ∙ death_none d t.shows.0 t.below (λ e. t.some (t.shows.1 ∙ e))
   top_none (activity.Collecting asked c) other t = absurd (cc)
+  top_none _ other t = ap next_detection (t.is ∙ ap (λ l. l ++ t.below) t.shows)
 
 -- without a collection there is none
 pub none_below : (script : Script) (activities : List Activity) (stack : List machine.Activity) → ShowsAll script activities stack → any_collecting activities ≡ false → next_detection stack ≡ None
@@ -121,12 +116,8 @@ handed_none script asked c rest stack t =
 module _ (script : Script) (e : State) (left : List Event) (w : World) where
   in_stack : (activities : List Activity) (stack : List machine.Activity) → ShowsAll script activities stack → detection_on activities ≡ next_detection stack
   in_stack [] stack none = sym (ap next_detection none)
-  in_stack (activity.Script next ∷ rest) stack t = sym (top_none script (ShowsAll script rest) stack (activity.Script next) refl t)
-  in_stack (activity.Frame locals procedure next ∷ rest) stack t = sym (top_none script (ShowsAll script rest) stack (activity.Frame locals procedure next) refl t)
-  in_stack (activity.Releasing release ∷ rest) stack t = sym (top_none script (ShowsAll script rest) stack (activity.Releasing release) refl t)
-  in_stack (activity.Shutdown started ∷ rest) stack t = sym (top_none script (ShowsAll script rest) stack (activity.Shutdown started) refl t)
-  in_stack (activity.Dying d ∷ rest) stack t = sym (top_none script (ShowsAll script rest) stack (activity.Dying d) refl t)
   in_stack (activity.Collecting asked c ∷ rest) stack t = let n = handed_none script asked c (ShowsAll script rest) stack t in n.0 ∙ sym n.1
+  in_stack (top ∷ rest) stack t = sym (top_none script (ShowsAll script rest) stack top refl t)
 
   on_top : (t : CollectsOnTop script e left w) → detection_by t.collection.generation (stage_of t.collection) ≡ next_detection w.stack
   on_top t =
@@ -138,36 +129,10 @@ module _ (script : Script) (e : State) (left : List Event) (w : World) where
   same_next (inl s) = in_stack e.activities w.stack s.0.shows
   same_next (inr t) = ap detection_on t.top ∙ on_top t
 
-  -- its generation is 0, 1 or 2
-  by_generation : (g : ℕ) (s : Stage) → g ≤ 2 → AreOfGenerations (detection_by g s)
-  by_generation g stage.BeforeFirst few = few
-  by_generation g stage.BeforeSecond few = tt
-  by_generation g stage.AfterFirst few = tt
-  by_generation g stage.AfterSecond few = tt
-  by_generation g stage.Between few = tt
-
-  in_generations : (activities : List Activity) (stack : List machine.Activity) → ShowsAll script activities stack → AreOfGenerations (detection_on activities)
-  in_generations [] stack none = tt
-  in_generations (activity.Script next ∷ rest) stack t = tt
-  in_generations (activity.Frame locals procedure next ∷ rest) stack t = tt
-  in_generations (activity.Releasing release ∷ rest) stack t = tt
-  in_generations (activity.Shutdown started ∷ rest) stack t = tt
-  in_generations (activity.Dying d ∷ rest) stack t = tt
-  in_generations (activity.Collecting asked c ∷ rest) stack t = by_generation c.generation (stage_of c) t.shows.handing.generation
-
-  pub of_generations : StandsWith script e left w → AreOfGenerations (detection_on e.activities)
-  of_generations (inl s) = in_generations e.activities w.stack s.0.shows
-  of_generations (inr t) = subst (λ (l : List Activity). AreOfGenerations (detection_on l)) (sym t.top) (by_generation t.collection.generation (stage_of t.collection) t.collects.ready.generation)
-
 -- no pass comes next if the collection on top, if any, answered a frame or a death
 pub standing_none : (script : Script) (activities : List Activity) (stack : List machine.Activity) → ShowsAll script activities stack → detection_on activities ≡ None
-standing_none script [] stack t = refl
-standing_none script (activity.Script next ∷ rest) stack t = refl
-standing_none script (activity.Frame locals procedure next ∷ rest) stack t = refl
-standing_none script (activity.Releasing release ∷ rest) stack t = refl
-standing_none script (activity.Shutdown started ∷ rest) stack t = refl
-standing_none script (activity.Dying d ∷ rest) stack t = refl
 standing_none script (activity.Collecting asked c ∷ rest) stack t = (handed_none script asked c (ShowsAll script rest) stack t).0
+standing_none script _ stack t = refl
 
 -- the phase whose step makes it
 abbrev pub phase_for : Detection → Phase

@@ -161,7 +161,6 @@ module _ (script : Script) (budget : ℕ) (store : Store) (w : World) (represent
     -- what a phase requires, with its death on the stack
     ready_at : (phase : Phase) → ((a : Activity) → Includes (death_activities o phase (waiting_for store o)) a → Includes w.stack a) → IsReadyForDeathAt store o phase
     ready_at phase_of.Finalizer on = unheld_now machine.Finalizer (on _ (inl refl)) (lawful.unheld _ (on _ (inl refl)))
-    ready_at phase_of.AfterFinalizer on = tt
     ready_at phase_of.Clearing on = (
       unheld_now (machine.Clearing (waiting_for store o)) (on _ (inl refl)) (lawful.unheld _ (on _ (inl refl))),
       newer_in_heap store w represents rows o (waiting_for store o) refl (lawful.newest (record { object = o; phase = machine.Clearing (waiting_for store o) })
@@ -170,10 +169,9 @@ module _ (script : Script) (budget : ℕ) (store : Store) (w : World) (represent
     ready_at phase_of.Calling on = (unheld_now (machine.Calling (waiting_for store o)) (on _ (inl refl)) (lawful.unheld _ (on _ (inl refl))), callbacks (on _ (inl refl)))
     ready_at (phase_of.AfterCall weak callback) on = unheld_now (machine.AfterCall weak callback (waiting_for store o)) (on _ (inl refl)) (lawful.unheld _ (on _ (inl refl)))
     ready_at phase_of.LegacyFinalizer on = unheld_now machine.LegacyFinalizer (on _ (inl refl)) (lawful.unheld _ (on _ (inl refl)))
-    ready_at phase_of.AfterLegacy on = tt
     ready_at phase_of.Detaching on = unheld_now machine.Detaching (on _ (inl refl)) (lawful.unheld _ (on _ (inl refl)))
     ready_at phase_of.Emptying on = (unheld_now machine.Emptying (on _ (inl refl)) (lawful.unheld _ (on _ (inl refl))), no_row (on _ (inl refl)) (lawful.unheld _ (on _ (inl refl))))
-    ready_at phase_of.Over on = tt
+    ready_at _ on = tt
 
     -- while references are given up it is unheld
     unheld_during : (phase : Phase) (release : Option Release) → IsSettledAt phase release
@@ -181,14 +179,7 @@ module _ (script : Script) (budget : ℕ) (store : Store) (w : World) (represent
     unheld_during phase None settled on = tt
     unheld_during phase_of.Calling (Some release) settled on = unheld_now (machine.Calling (waiting_for store o)) (on _ (inl refl)) (lawful.unheld _ (on _ (inl refl)))
     unheld_during phase_of.Emptying (Some release) settled on = unheld_now machine.Emptying (on _ (inl refl)) (lawful.unheld _ (on _ (inl refl)))
-    unheld_during phase_of.Finalizer (Some release) settled on = absurd settled
-    unheld_during phase_of.AfterFinalizer (Some release) settled on = absurd settled
-    unheld_during phase_of.Clearing (Some release) settled on = absurd settled
-    unheld_during (phase_of.AfterCall weak callback) (Some release) settled on = absurd settled
-    unheld_during phase_of.LegacyFinalizer (Some release) settled on = absurd settled
-    unheld_during phase_of.AfterLegacy (Some release) settled on = absurd settled
-    unheld_during phase_of.Detaching (Some release) settled on = absurd settled
-    unheld_during phase_of.Over (Some release) settled on = absurd settled
+    unheld_during _ (Some release) settled on = absurd settled
 
   pub death_ready : (death : Death) → IsSettled death → ((a : Activity) → Includes (death_activities death.object death.phase (waiting_for store death.object))
       a → Includes w.stack a) → IsReadyForDeath death store

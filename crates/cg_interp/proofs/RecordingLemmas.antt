@@ -296,6 +296,12 @@ module _ (law : NoRunIsStuck) (script : Script) (budget : ℕ) (before : Option 
     abbrev pub Recorded : Option Standing → Type 0
     Recorded told = (w : World) (l : List Event) → StandsWith script e l w → StaysKept script e.first_budget w → RecordsTurn script e unfinished w l e' then told now now'
 
+    abbrev Still : Type 0
+    Still = then ≡ unfinished_after unfinished (recorded_next unfinished e)
+
+    abbrev Wrote : Type 0
+    Wrote = Appends now now' (text_of_turn script e.store e'.store unfinished (recorded_next unfinished e))
+
     abbrev Turned_so : Turned → Type 0
     Turned_so answer = TurnsWith script (Advances e left e') so_far left e' answer
 
@@ -314,70 +320,51 @@ module _ (law : NoRunIsStuck) (script : Script) (budget : ℕ) (before : Option 
         let (none, stands) = told_some (list_any wants_memory (events_told h.answer)) (standing_after h.answer) standing.Running (sym h.is ∙ is) in
         go h.answer stands none h.turns h.still h.written
       where
-        on : (tell : List Event) → list_any wants_memory tell ≡ false → GoesOnTo script (Advances e left e') so_far left tell e' → then
-            ≡ unfinished_after unfinished (recorded_next unfinished e) → Appends now now' (text_of_turn script e.store e'.store unfinished
-            (recorded_next unfinished e)) → RecordedSo script budget before e' then now'
+        on : (tell : List Event) → list_any wants_memory tell ≡ false → GoesOnTo script (Advances e left e') so_far left tell e' → Still → Wrote → RecordedSo script budget before e' then now'
         on tell none g still wrote = so_longer e' now' g.events g.after g.goes (on_shown tell g) tell g.still g.lines g.stands none then still wrote
 
-        go : (answer : Turned) → standing_after answer ≡ standing.Running → list_any wants_memory (events_told answer) ≡ false → Turned_so answer → then
-            ≡ unfinished_after unfinished (recorded_next unfinished e) → Appends now now' (text_of_turn script e.store e'.store unfinished
-            (recorded_next unfinished e)) → RecordedSo script budget before e' then now'
+        go : (answer : Turned) → standing_after answer ≡ standing.Running → list_any wants_memory (events_told answer) ≡ false → Turned_so answer → Still → Wrote
+            → RecordedSo script budget before e' then now'
         go turned.Quiet s none g still wrote = on [] none g still wrote
         go (turned.Line event) s none g still wrote = on (event ∷ []) none g still wrote
         go (turned.Lines events) s none g still wrote = on events none g still wrote
-        go turned.Ended s none g still wrote = absurd (cc)
-        go (turned.Left n) s none g still wrote = absurd (cc)
-        go turned.Spent s none g still wrote = absurd (cc)
+        go _ s none g still wrote = absurd (cc)
 
     -- the run has ended, and the end of the records is written
     module _ (now'' : Option (List ℕ)) (end : Appends now' now'' (closing then ++ codes "end\n")) where
       ends : (lines : List Event) (outcome : Outcome) → outcome ≢ Running → list_any wants_memory lines ≡ false → left ≡ [] → RunEndsWith script so_far lines
-          outcome → then ≡ unfinished_after unfinished (recorded_next unfinished e)
-          → Appends now now' (text_of_turn script e.store e'.store unfinished (recorded_next unfinished e)) → WroteRecords script budget outcome before now''
+          outcome → Still → Wrote → WroteRecords script budget outcome before now''
       ends lines outcome over unrefused none k still wrote = whole_longer e' now' lines k.after k.goes (end_shown lines outcome over k) lines outcome none refl
           k.ended over unrefused then still wrote now'' end
 
       pub recorded_to_end : (told : Option Standing) → told ≡ Some standing.Ended → Recorded told → WroteRecords script budget Ended before now''
       recorded_to_end told is t = let h = here told t in go h.answer (told_some _ _ _ (sym h.is ∙ is)).1 h.turns h.still h.written
         where
-          go : (answer : Turned) → standing_after answer ≡ standing.Ended → Turned_so answer → then ≡ unfinished_after unfinished (recorded_next unfinished e)
-              → Appends now now' (text_of_turn script e.store e'.store unfinished (recorded_next unfinished e)) → WroteRecords script budget Ended before now''
-          go turned.Quiet s g still wrote = absurd (cc)
-          go (turned.Line event) s g still wrote = absurd (cc)
-          go (turned.Lines events) s g still wrote = absurd (cc)
+          go : (answer : Turned) → standing_after answer ≡ standing.Ended → Turned_so answer → Still → Wrote → WroteRecords script budget Ended before now''
           go turned.Ended s (none, k) still wrote = ends (End ∷ []) Ended (λ n. cc) refl none k still wrote
           go (turned.Left n) s (none, k) still wrote = ends (Left n ∷ End ∷ []) Ended (λ m. cc) refl none k still wrote
-          go turned.Spent s g still wrote = absurd (cc)
+          go _ s g still wrote = absurd (cc)
 
       pub recorded_out : (told : Option Standing) → told ≡ Some standing.Spent → Recorded told → WroteRecords script budget BudgetIsSpent before now''
       recorded_out told is t = let h = here told t in go h.answer (told_some _ _ _ (sym h.is ∙ is)).1 h.turns h.still h.written
         where
-          go : (answer : Turned) → standing_after answer ≡ standing.Spent → Turned_so answer → then ≡ unfinished_after unfinished (recorded_next unfinished e)
-              → Appends now now' (text_of_turn script e.store e'.store unfinished (recorded_next unfinished e)) → WroteRecords script budget BudgetIsSpent before now''
-          go turned.Quiet s g still wrote = absurd (cc)
-          go (turned.Line event) s g still wrote = absurd (cc)
-          go (turned.Lines events) s g still wrote = absurd (cc)
-          go turned.Ended s g still wrote = absurd (cc)
-          go (turned.Left n) s g still wrote = absurd (cc)
+          go : (answer : Turned) → standing_after answer ≡ standing.Spent → Turned_so answer → Still → Wrote → WroteRecords script budget BudgetIsSpent before now''
           go turned.Spent s (none, k) still wrote = ends (BudgetSpent ∷ []) BudgetIsSpent (λ n. cc) refl none k still wrote
+          go _ s g still wrote = absurd (cc)
 
     -- or a prefix of it
     pub recorded_end_cut : (told : Option Standing) (s : Standing) → told ≡ Some s → s ≢ standing.Running → Recorded told → (now'' : Option (List ℕ))
         → AppendsFront now' now'' (closing then ++ codes "end\n") → WroteRecordsPart script budget before now''
     recorded_end_cut told s is over t now'' end = let h = here told t in go h.answer ((told_some _ _ _ (sym h.is ∙ is)).1) h.turns h.still h.written
       where
-        ends : (lines : List Event) (outcome : Outcome) → outcome ≢ Running → RunEndsWith script so_far lines outcome → then ≡ unfinished_after unfinished (recorded_next unfinished e)
-            → Appends now now' (text_of_turn script e.store e'.store unfinished (recorded_next unfinished e)) → WroteRecordsPart script budget before now''
+        ends : (lines : List Event) (outcome : Outcome) → outcome ≢ Running → RunEndsWith script so_far lines outcome → Still → Wrote → WroteRecordsPart script budget before now''
         ends lines outcome ended k still wrote = end_longer e' now' lines k.after k.goes (end_shown lines outcome ended k) then still wrote now'' (λ r. ended (sym k.ended ∙ r)) end
 
-        go : (answer : Turned) → standing_after answer ≡ s → Turned_so answer → then ≡ unfinished_after unfinished (recorded_next unfinished e)
-            → Appends now now' (text_of_turn script e.store e'.store unfinished (recorded_next unfinished e)) → WroteRecordsPart script budget before now''
-        go turned.Quiet e g still wrote = absurd (over (sym e))
-        go (turned.Line event) e g still wrote = absurd (over (sym e))
-        go (turned.Lines events) e g still wrote = absurd (over (sym e))
+        go : (answer : Turned) → standing_after answer ≡ s → Turned_so answer → Still → Wrote → WroteRecordsPart script budget before now''
         go turned.Ended e (none, k) still wrote = ends (End ∷ []) Ended (λ n. cc) k still wrote
         go (turned.Left n) e (none, k) still wrote = ends (Left n ∷ End ∷ []) Ended (λ m. cc) k still wrote
         go turned.Spent e (none, k) still wrote = ends (BudgetSpent ∷ []) BudgetIsSpent (λ n. cc) k still wrote
+        go _ e g still wrote = absurd (over (sym e))
 
     -- a prefix of any turn's records
     turned_cut : (answer : Turned) → Turned_so answer → AppendsFront now now' (text_of_turn script e.store e'.store unfinished (recorded_next unfinished e))
@@ -413,6 +400,4 @@ module _ (law : NoRunIsStuck) (script : Script) (budget : ℕ) (before : Option 
         go turned.Quiet s g = falls [] g
         go (turned.Line event) s g = falls (event ∷ []) g
         go (turned.Lines events) s g = falls events g
-        go turned.Ended s g = absurd (cc)
-        go (turned.Left n) s g = absurd (cc)
-        go turned.Spent s g = absurd (cc)
+        go _ s g = absurd (cc)

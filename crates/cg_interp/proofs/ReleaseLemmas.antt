@@ -1,23 +1,15 @@
 -- A release on top: its answer is the machine's step.
-use Rattle.std.proofs.Common.{◌≡◌, ◌≢◌, refl, sym, ◌∙◌, ap, subst, ℕ, ◌+◌, ◌<◌, Bool, true, false, cond, List, [], ◌∷◌, ◌++◌, Option, None, Some, length, arith, drop, length-drop}
+use Rattle.std.proofs.Common.{◌≡◌, ◌≢◌, refl, sym, ◌∙◌, ap, subst, ℕ, ◌<◌, List, [], ◌∷◌, ◌++◌, length, arith, drop, length-drop}
 use Rattle.cg_script.specs.declared.Script.{Script}
-use Rattle.std.specs.Prelude.{◌==◌, if◌then◌else◌, option_map, IsSome}
-use Rattle.std.specs.FinMap as fin
-use Rattle.std.proofs.lemmas.Bool.{eq-eqb, eqb-true}
-use Rattle.std.proofs.lemmas.List.Sums.{sum_by-cons}
-use Rattle.cg_graph.specs.Holdings.{occurrences}
-use Rattle.cg_graph.specs.Changes.{unheld, less}
-use Rattle.cg_graph.specs.Store.{Store, Node, IsLive, count_of}
-use Rattle.cg_graph.proofs.Maps.{get-mapped}
-use Rattle.cg_heap.proofs.HoldLemmas.{outside_live}
+use Rattle.cg_graph.specs.Store.{Store}
 use Rattle.cg_machine.specs.World.{World, Activity, Releasing}
 use Rattle.cg_machine.specs.Frame.{begin_death}
 use Rattle.cg_machine.specs.Run.{StepTaken, last_world}
 use Rattle.cg_death.specs.declared.release.Release.{Release}
 use Rattle.cg_death.specs.declared.answer.DeathStep.{DeathStep}
 use Rattle.cg_death.specs.declared.answer.DeathStep.TheVariants as answer_of
-use Rattle.cg_death.specs.Activities.{references_left, HasHolds, IsUnheld}
-use Rattle.cg_death.specs.Answers.{ReleaseSteps, ReleaseAnswer, release_answer, once_released, WentOn, GaveDeath}
+use Rattle.cg_death.specs.Activities.{references_left}
+use Rattle.cg_death.specs.Answers.{ReleaseSteps, ReleaseAnswer, release_answer, WentOn, GaveDeath}
 use Rattle.cg_interp.specs.declared.activity.Activity.TheVariants as activity
 use Rattle.cg_policy.specs.Policy.{Policy}
 use Rattle.cg_interp.specs.Engines.{State, StandsFor, ShowsAll, under, any_collecting}
@@ -31,25 +23,6 @@ stack_moves w after steps ends other none = other (ap (λ (v : World). v.stack) 
 pub fewer : (left : List ℕ) (left_after : List ℕ) (store : Store) → left_after ≡ drop 1 left → answer_of.Continue ≡ release_answer left store → length left_after < length left
 fewer [] left_after store now is = let n : answer_of.Continue ≡ answer_of.Gone = is in absurd (cc)
 fewer (o ∷ left) left_after store now is = let same : length left_after ≡ length (drop 1 (o ∷ left)) = ap length now in omega (arith, same, length-drop 1 (o ∷ left))
-
--- an object whose death is to begin is unheld and lives
-pub unheld_then : (left : List ℕ) (old new : Store) (o : ℕ) → HasHolds old left → new ≡ once_released left old → answer_of.Died o ≡ release_answer left new → IsUnheld new o
-unheld_then [] old new o holds now is = absurd (let clash : answer_of.Died o ≡ answer_of.Gone = is in cc)
-unheld_then (q ∷ left) old new o holds now is = go (count_of new q == 0) refl is
-  where
-    lives : IsLive new q
-    lives =
-        let first : occurrences q (q ∷ left) ≡ cond (q == q) 1 0 + occurrences q left = sum_by-cons (λ r. cond (r == q) 1 0) q left in
-        let own : cond {A = ℕ} (q == q) 1 0 ≡ 1 = ap (λ b. cond b 1 0) (eq-eqb q q refl) in
-        subst (λ st. IsLive st q) (sym now) (kept (fin.get old.nodes q) (outside_live old q (omega (arith, holds q, first, own))) (get-mapped (λ s n. less (occurrences s (q ∷ [])) n) old.nodes q))
-      where
-        kept : (x : Option Node) → IsSome x → fin.get (unheld (q ∷ []) old).nodes q ≡ option_map (λ n. less (occurrences q (q ∷ [])) n) x → IsLive (unheld (q ∷ []) old) q
-        kept None there e = absurd (cc)
-        kept (Some n) there e = subst IsSome (sym e) refl
-
-    go : (b : Bool) → (count_of new q == 0) ≡ b → answer_of.Died o ≡ (if b then answer_of.Died q else answer_of.Continue) → IsUnheld new o
-    go true e is = let same : q ≡ o = cc in subst (IsUnheld new) same (record { live = lives; none = eqb-true (count_of new q) 0 e })
-    go false e is = absurd (let clash : answer_of.Died o ≡ answer_of.Continue = is in cc)
 
 module _ (script : Script) (old new : State) (release after_release : Release) (answer : DeathStep) (w : World)
     (stands : StandsFor script (under (activity.Releasing release) old) w) (sound : DyingIsSound w) (steps : ReleaseSteps old.store (references_left release)

@@ -1,24 +1,13 @@
 -- Room for the death of the object that a command makes, and what is left of it afterwards.
-use Rattle.std.proofs.Common.{◌≡◌, refl, sym, ◌∙◌, ap, subst, ℕ, ◌+◌, ◌*◌, ◌≤◌, Bool, true, false, List, [], ◌∷◌, length, arith, sum_by}
+use Rattle.std.proofs.Common.{◌≡◌, refl, sym, ◌∙◌, ap, subst, ℕ, ◌+◌, ◌*◌, ◌≤◌, Bool, true, false, length, arith}
 use Rattle.std.specs.Prelude.{if◌then◌else◌, is_ok, OnOk, Result, Ok, Err}
-use Rattle.std.proofs.lemmas.List.{length-map}
-use Rattle.std.proofs.lemmas.List.Sums.{sum_by-cons}
-use Rattle.std.specs.FinMap as fin
-use Rattle.cg_graph.specs.Store.{Store, Node, objects_of, object_from}
-use Rattle.cg_heap.specs.Keeps.{one}
+use Rattle.cg_graph.specs.Store.{Store, objects_of}
 use Rattle.cg_heap.specs.Calls.{object_number}
 use Rattle.cg_policy.specs.Policy.{Policy}
 use Rattle.cg_commands.specs.Growth.{GrowsBy}
 use Rattle.cg_interp.specs.Engines.{State}
 use Rattle.cg_interp.specs.Turns.{IsFit, StaysFit, HasRoom, HasRoomForOneMore}
-
--- as many objects as the heap counts, and the garbage list
-ones : (es : List (ℕ × Node)) → length es ≡ sum_by (λ (e : ℕ × Node). one e.1) es
-ones [] = refl
-ones (e ∷ es) = let rest = ones es in omega (arith, rest, sum_by-cons (λ (e : ℕ × Node). one e.1) e es)
-
-pub objects-number : (store : Store) → length (objects_of store) ≤ object_number store + 1
-objects-number store = omega (arith, length-map (fin.entries store.nodes) (λ (e : ℕ × Node). object_from store.rows e.0 e.1), ones (fin.entries store.nodes))
+use Rattle.cg_interp.proofs.LawsOfEngines.{objects-number}
 
 pub when_ok : {T E P : Type 0} (r : Result T E) → is_ok r ≡ true → OnOk r P → P
 when_ok (Ok x) is holds = holds

@@ -46,12 +46,11 @@ pub record Went (script : Script) (w : World) (left : List Event) (answer : Turn
   pub lines : left ++ events ≡ events_told answer ++ still
 
 pub went : (script : Script) (may_rest : List Event → Type 0) (w : World) (left : List Event) (e : State) (answer : Turned) → TurnsWith script may_rest w left e answer → Went script w left answer
-went script may_rest w left e turned.Quiet t = record { events = t.events; after = t.after; still = t.still; goes = t.goes; lines = t.lines }
-went script may_rest w left e (turned.Line event) t = record { events = t.events; after = t.after; still = t.still; goes = t.goes; lines = t.lines }
 went script may_rest w left e (turned.Lines events) t = record { events = t.events; after = t.after; still = t.still; goes = t.goes; lines = t.lines }
 went script may_rest w left e turned.Ended (none, t) = record { events = End ∷ []; after = t.after; still = []; goes = t.goes; lines = ap (λ l. l ++ End ∷ []) none }
 went script may_rest w left e (turned.Left n) (none, t) = record { events = Left n ∷ End ∷ []; after = t.after; still = []; goes = t.goes; lines = ap (λ l. l ++ Left n ∷ End ∷ []) none }
 went script may_rest w left e turned.Spent (none, t) = record { events = BudgetSpent ∷ []; after = t.after; still = []; goes = t.goes; lines = ap (λ l. l ++ BudgetSpent ∷ []) none }
+went script may_rest w left e _ t = record { events = t.events; after = t.after; still = t.still; goes = t.goes; lines = t.lines }
 
 -- so its line can be printed, if all lines can
 pub told_printable : (script : Script) (may_rest : List Event → Type 0) (w : World) (left : List Event) (e : State) (answer : Turned)
@@ -191,9 +190,7 @@ module _ (script : Script) (budget : ℕ) (before : Option (List ℕ)) (e : Stat
         go turned.Quiet is g wrote = on [] g wrote
         go (turned.Line event) is g wrote = on (event ∷ []) g wrote
         go (turned.Lines events) is g wrote = on events g wrote
-        go turned.Ended is g wrote = absurd (cc)
-        go (turned.Left n) is g wrote = absurd (cc)
-        go turned.Spent is g wrote = absurd (cc)
+        go _ is g wrote = absurd (cc)
 
     pub ran_to_end : (stands : Standing) → stands ≡ standing.Ended → Wrote stands → WroteRun script budget Ended before now'
     ran_to_end stands over t = let h = t so_far ran.left ran.stands kept_so_far in go h.answer (h.is ∙ over) h.turns h.written
@@ -202,24 +199,17 @@ module _ (script : Script) (budget : ℕ) (before : Option (List ℕ)) (e : Stat
         ends lines none k wrote = ran_whole lines lines [] k.after k.goes (ap (λ l. l ++ lines) none ∙ sym (append-nil lines)) Ended now' refl k.ended (λ n. cc) wrote
 
         go : (answer : Turned) → standing_after answer ≡ standing.Ended → Turned_so answer → Wrote_so answer → WroteRun script budget Ended before now'
-        go turned.Quiet is g wrote = absurd (cc)
-        go (turned.Line event) is g wrote = absurd (cc)
-        go (turned.Lines events) is g wrote = absurd (cc)
         go turned.Ended is g wrote = ends (End ∷ []) g.0 g.1 wrote
         go (turned.Left n) is g wrote = ends (Left n ∷ End ∷ []) g.0 g.1 wrote
-        go turned.Spent is g wrote = absurd (cc)
+        go _ is g wrote = absurd (cc)
 
     pub ran_out : (stands : Standing) → stands ≡ standing.Spent → Wrote stands → WroteRun script budget BudgetIsSpent before now'
     ran_out stands spent t = let h = t so_far ran.left ran.stands kept_so_far in go h.answer (h.is ∙ spent) h.turns h.written
       where
         go : (answer : Turned) → standing_after answer ≡ standing.Spent → Turned_so answer → Wrote_so answer → WroteRun script budget BudgetIsSpent before now'
-        go turned.Quiet is g wrote = absurd (cc)
-        go (turned.Line event) is g wrote = absurd (cc)
-        go (turned.Lines events) is g wrote = absurd (cc)
-        go turned.Ended is g wrote = absurd (cc)
-        go (turned.Left n) is g wrote = absurd (cc)
         go turned.Spent is (none, ends) wrote = ran_whole (BudgetSpent ∷ []) (BudgetSpent ∷ []) [] ends.after ends.goes (ap (λ l. l ++ BudgetSpent ∷ []) none)
             BudgetIsSpent now' refl ends.ended (λ n. cc) wrote
+        go _ is g wrote = absurd (cc)
 
     -- a line was cut off
     pub ran_cut : FrontsBeginWholeTexts → ((w : World) (left : List Event) → StandsWith script e left w → StaysKept script e.first_budget w
@@ -240,6 +230,4 @@ module _ (script : Script) (budget : ℕ) (before : Option (List ℕ)) (e : Stat
         go turned.Quiet is g = falls [] g
         go (turned.Line event) is g = falls (event ∷ []) g
         go (turned.Lines events) is g = falls events g
-        go turned.Ended is g = absurd (cc)
-        go (turned.Left n) is g = absurd (cc)
-        go turned.Spent is g = absurd (cc)
+        go _ is g = absurd (cc)

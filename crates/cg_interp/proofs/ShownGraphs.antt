@@ -1,7 +1,7 @@
 -- The graphs that a run shows, for longer and longer runs.
 use Rattle.std.proofs.Common.{◌≡◌, ◌≢◌, refl, sym, ◌∙◌, ap, subst, ℕ, false, List, [], ◌∷◌, ◌++◌, map, Option, None, Some, append_assoc}
 use Rattle.cg_script.specs.declared.Script.{Script}
-use Rattle.cg_machine.specs.World.{World, Activity, TopLevel, Framed, Releasing, Dying, Collecting, ShuttingDown, CollectPhase, Start, WeakClearing, WeakCalling, AfterCallback, AfterRelease, Finalizing, AfterFinalizing, Split, Turns, Turn, AfterTurn, Ending}
+use Rattle.cg_machine.specs.World.{World, Activity, Collecting, CollectPhase, Start, Split}
 use Rattle.cg_machine.specs.Collect.{SameMembers}
 use Rattle.cg_machine.specs.Run.{StepTaken, last_world}
 use Rattle.cg_represents.specs.Represents.{detects, is_detection, MakesNoDetection, MakesDetectionsAlone}
@@ -39,26 +39,12 @@ some_shown script w (step ∷ steps) =
 -- where no pass is made, nothing is shown
 phase_none : (g : ℕ) (phase : CollectPhase) → is_detection phase ≡ false → detection_at g phase ≡ None
 phase_none g Start e = absurd (cc)
-phase_none g (WeakClearing waiting) e = refl
-phase_none g (WeakCalling waiting) e = refl
-phase_none g (AfterCallback weak waiting) e = refl
-phase_none g (AfterRelease weak waiting) e = refl
-phase_none g Finalizing e = refl
-phase_none g (AfterFinalizing o) e = refl
 phase_none g Split e = absurd (cc)
-phase_none g Turns e = refl
-phase_none g (Turn o) e = refl
-phase_none g (AfterTurn o) e = refl
-phase_none g Ending e = refl
+phase_none g _ e = refl
 
 pub none_next : (stack : List Activity) → detects stack ≡ false → next_detection stack ≡ None
-none_next [] e = refl
-none_next (TopLevel commands ∷ below) e = refl
-none_next (Framed f ∷ below) e = refl
-none_next (Releasing references ∷ below) e = refl
-none_next (Dying d ∷ below) e = refl
 none_next (Collecting c ∷ below) e = phase_none c.generation c.phase e
-none_next (ShuttingDown started ∷ below) e = refl
+none_next _ e = refl
 
 step_none : (script : Script) (w after : World) (d : Option Detection) → d ≡ None → ShowsStep script w after d []
 step_none script w after None e = refl

@@ -1,5 +1,5 @@
 -- A turn of the shutdown: it gives up the greatest bound name, starts the last collection, or reports what is left.
-use Rattle.std.proofs.Common.{◌≡◌, refl, sym, ◌∙◌, ap, subst, ℕ, zero, suc, ◌+◌, ◌<◌, ◌≤◌, Bool, true, false, cond, List, [], ◌∷◌, ◌++◌, length, drop, Option, None, Some, arith}
+use Rattle.std.proofs.Common.{◌≡◌, refl, sym, ◌∙◌, ap, subst, ℕ, zero, suc, ◌+◌, ◌<◌, ◌≤◌, Bool, true, false, cond, List, [], ◌∷◌, ◌++◌, length, Option, None, Some, arith}
 use Rattle.std.specs.Prelude.{slice_get, option_and_then, count_by}
 use Rattle.std.proofs.lemmas.List.{length-set}
 use Rattle.std.proofs.lemmas.List.Sums.{sum_by-cons}
@@ -92,14 +92,6 @@ greatest_from-below n (x ∷ names) name is = go (greatest_from (n + 1) names) r
 
 pub greatest_below : (names : List (Option Val)) (name : ℕ) → greatest_from 0 names ≡ Some name → name < length names
 greatest_below names name is = let below = greatest_from-below 0 names name is in omega (arith, below)
-
--- no name after the last is bound
-pub none_past : (names : List (Option Val)) (k : ℕ) → k ≡ length names → greatest_from k (drop k names) ≡ None
-none_past names k is = ap (greatest_from k) (ap (λ m. drop m names) is ∙ past names)
-  where
-    past : (names : List (Option Val)) → drop (length names) names ≡ []
-    past [] = refl
-    past (x ∷ names) = past names
 
 -- Nothing is below the shutdown.
 alone : (started : Bool) (below : List Activity) → IsOverTopLevel (ShuttingDown started ∷ below) → below ≡ []

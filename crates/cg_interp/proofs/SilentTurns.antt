@@ -25,9 +25,8 @@ none-append w (step ∷ steps) more none later = (none.0, none-append step.world
 
 -- each pass is alone if there is none
 pub alone : (w : World) (steps : List StepTaken) → MakesNoDetection w steps → MakesDetectionsAlone w steps
-alone w [] none = tt
-alone w (step ∷ []) none = tt
 alone w (step ∷ next ∷ steps) none = none
+alone w _ none = tt
 
 -- there is none if the first step makes none
 pub none_made : (w : World) (steps : List StepTaken) → MakesDetectionsAlone w steps → detects w.stack ≡ false → MakesNoDetection w steps

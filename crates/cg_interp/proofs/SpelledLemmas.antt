@@ -6,7 +6,7 @@ use Rattle.std.proofs.lemmas.List.Elements.{All-head, All-tail}
 use Rattle.cg_script.specs.declared.Script.{Script}
 use Rattle.cg_script.specs.declared.Command.{Command}
 use Rattle.cg_script.specs.declared.item.Item.{Item}
-use Rattle.cg_script.specs.declared.item.Item.TheVariants.{Budget, Class, Def, Run, Profile, Shutdown}
+use Rattle.cg_script.specs.declared.item.Item.TheVariants.{Def, Run}
 use Rattle.cg_script.specs.declared.item.Proc.{Proc}
 use Rattle.cg_script.specs.Spelled.{IsSpelled, IsSpelledItem, IsSpelledCommand}
 use Rattle.cg_graph.specs.Member.{Includes}
@@ -33,32 +33,20 @@ of_all P (y ∷ xs) x all (inr m) = of_all P xs x (All-tail P y xs all) m
 
 command_line : (items : List Item) (c : Command) → Includes (commands_of items) c → Includes items (Run c)
 command_line [] c m = absurd m
-command_line (Budget n ∷ items) c m = inr (command_line items c m)
-command_line (Profile n ∷ items) c m = inr (command_line items c m)
-command_line (Shutdown ∷ items) c m = inr (command_line items c m)
-command_line (Class d ∷ items) c m = inr (command_line items c m)
-command_line (Def p ∷ items) c m = inr (command_line items c m)
 command_line (Run d ∷ items) c (inl same) = inl (ap Run same)
 command_line (Run d ∷ items) c (inr m) = inr (command_line items c m)
+command_line (_ ∷ items) c m = inr (command_line items c m)
 
 procedure_line : (items : List Item) (p : Proc) → Includes (procedures items) p → Includes items (Def p)
 procedure_line [] p m = absurd m
-procedure_line (Budget n ∷ items) p m = inr (procedure_line items p m)
-procedure_line (Profile n ∷ items) p m = inr (procedure_line items p m)
-procedure_line (Shutdown ∷ items) p m = inr (procedure_line items p m)
-procedure_line (Class d ∷ items) p m = inr (procedure_line items p m)
-procedure_line (Run c ∷ items) p m = inr (procedure_line items p m)
 procedure_line (Def q ∷ items) p (inl same) = inl (ap Def same)
 procedure_line (Def q ∷ items) p (inr m) = inr (procedure_line items p m)
+procedure_line (_ ∷ items) p m = inr (procedure_line items p m)
 
 pub few_commands : (items : List Item) → length (commands_of items) ≤ length items
 few_commands [] = omega arith
-few_commands (Budget n ∷ items) = omega (arith, few_commands items)
-few_commands (Profile n ∷ items) = omega (arith, few_commands items)
-few_commands (Shutdown ∷ items) = omega (arith, few_commands items)
-few_commands (Class d ∷ items) = omega (arith, few_commands items)
-few_commands (Def p ∷ items) = omega (arith, few_commands items)
 few_commands (Run c ∷ items) = omega (arith, few_commands items)
+few_commands (_ ∷ items) = omega (arith, few_commands items)
 
 module _ (script : Script) (spelled : IsSpelled script) where
   -- the commands outside procedures can be done

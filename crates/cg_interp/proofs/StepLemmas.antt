@@ -7,7 +7,6 @@ use Rattle.cg_script.specs.declared.Command.{Command}
 use Rattle.cg_graph.specs.Member.{Includes}
 use Rattle.cg_graph.proofs.Members.{Includes-append_right, either}
 use Rattle.cg_machine.specs.declared.event.Event.{Event}
-use Rattle.cg_machine.specs.declared.event.Event.TheVariants.{End, BudgetSpent, Left}
 use Rattle.cg_machine.specs.Program.{commands_of, body_of, declares_shutdown}
 use Rattle.cg_machine.specs.World.{World, TopLevel, Framed, Frame, Running, push, with_stack, ShuttingDown}
 use Rattle.cg_machine.specs.Frame.{Transition, Yields}
@@ -37,7 +36,7 @@ use Rattle.cg_interp.specs.Collecting.{StandsWith}
 use Rattle.cg_interp.specs.Telling.{TurnsWith}
 use Rattle.cg_interp.specs.Turns.{Makes, Turns, GoesTo, IsFit}
 use Rattle.cg_interp.proofs.StackChanges.{plain_frame, plain_script, replaced, spelled, one_step, plain_shutdown}
-use Rattle.cg_interp.proofs.AnswersOfTurns.{turns_plainly}
+use Rattle.cg_interp.proofs.AnswersOfTurns.{turns_plainly, reaches}
 use Rattle.cg_interp.proofs.SilentTurns.{quietly, first_then, first_moves}
 use Rattle.cg_interp.proofs.LawsOfEngines.{has_room, few_holds, few_objects}
 use Rattle.cg_interp.proofs.CollectBegins.{idle_in}
@@ -50,51 +49,9 @@ use Rattle.cg_machine.specs.Shutdown.{after_commands}
 pub due_in : (script : Script) (e : State) (w : World) (answer : Option ℕ) → StandsFor script e w → answer ≡ due_of e.policy → due w ≡ answer
 due_in script e w answer stands is = ap due_of (sym (policy_is script e w stands)) ∙ sym is
 
-pub none_due_in : (script : Script) (e : State) (w : World) (answer : Option ℕ) → StandsFor script e w → answer ≡ due_of e.policy → ((g : ℕ) → answer ≡ Some g → ⊥) → due w ≡ None
-none_due_in script e w None stands is never = due_in script e w None stands is
-none_due_in script e w (Some g) stands is never = absurd (never g refl)
-
 -- a transition that the machine may make answers a turn
 pub turns : (script : Script) (w : World) (e : State) (t : Transition) (answer : Turned) → w.outcome ≡ Running → StepOf script w w.stack t.0 t.1 → Makes script t e answer → Turns script w e answer
-turns script w e t turned.Quiet running step makes = record {
-  after = t.1;
-  goes = one_step script w [] t.1 running (subst (λ es. StepOf script w w.stack es t.1)
-      makes.0 step);
-  moves = λ n. absurd (cc);
-  stands = makes.1;
-}
-turns script w e t (turned.Line event) running step makes = record {
-  after = t.1;
-  goes = one_step script w (event ∷ []) t.1 running
-      (subst (λ es. StepOf script w w.stack es t.1) makes.0 step);
-  moves = λ n. absurd (cc);
-  stands = makes.1;
-}
-turns script w e t (turned.Lines events) running step makes = record {
-  after = t.1;
-  goes = one_step script w events t.1 running
-      (subst (λ es. StepOf script w w.stack es t.1) makes.0 step);
-  moves = λ n. absurd (cc);
-  stands = makes.1;
-}
-turns script w e t turned.Ended running step makes = record {
-  after = t.1;
-  goes = one_step script w (End ∷ []) t.1 running
-      (subst (λ es. StepOf script w w.stack es t.1) makes.0 step);
-  ended = makes.1;
-}
-turns script w e t (turned.Left n) running step makes = record {
-  after = t.1;
-  goes = one_step script w (Left n ∷ End ∷ []) t.1 running
-      (subst (λ es. StepOf script w w.stack es t.1) makes.0 step);
-  ended = makes.1;
-}
-turns script w e t turned.Spent running step makes = record {
-  after = t.1;
-  goes = one_step script w (BudgetSpent ∷ []) t.1 running
-      (subst (λ es. StepOf script w w.stack es t.1) makes.0 step);
-  ended = makes.1;
-}
+turns script w e t answer running step makes = reaches script w e t (one_step script w t.0 t.1 running step) (λ n. absurd (cc)) answer makes
 
 -- A step of the machine comes first.
 module _ (script : Script) (w mid : World) (running : w.outcome ≡ Running) where

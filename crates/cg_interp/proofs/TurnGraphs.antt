@@ -9,7 +9,7 @@ use Rattle.cg_graph.specs.Object.{serials_at}
 use Rattle.cg_graph.specs.Store.{Store, list_at}
 use Rattle.cg_heap.specs.Calls.{IsListed}
 use Rattle.cg_machine.specs.declared.event.Event.{Event}
-use Rattle.cg_machine.specs.World.{World, Activity, TopLevel, Framed, Releasing, Dying, Collecting, ShuttingDown, Collection, CollectPhase, Start, WeakClearing, WeakCalling, AfterCallback, AfterRelease, Finalizing, AfterFinalizing, Split, Turns, Turn, AfterTurn, Ending, Outcome, Running}
+use Rattle.cg_machine.specs.World.{World, Activity, Collecting, Collection, CollectPhase, Start, Split, Outcome, Running}
 use Rattle.cg_machine.specs.Collect.{SameMembers, PhaseStep}
 use Rattle.cg_machine.specs.Run.{StepTaken, Run, Step, StepOf, last_world}
 use Rattle.cg_represents.specs.Represents.{Represents, Goes}
@@ -36,26 +36,12 @@ use Rattle.cg_interp.proofs.NextDetections.{same_next, at_detection, no_advance}
 module _ (script : Script) (w after : World) (events : List Event) (d : Detection) where
   phase_runs : (c : Collection) (phase : CollectPhase) (below : List Activity) → detection_at c.generation phase ≡ Some d → PhaseStep script c phase below w events after → after.outcome ≡ w.outcome
   phase_runs c Start below next step = ap (λ (v : World). v.outcome) step.world
-  phase_runs c (WeakClearing waiting) below next step = absurd (cc)
-  phase_runs c (WeakCalling waiting) below next step = absurd (cc)
-  phase_runs c (AfterCallback weak waiting) below next step = absurd (cc)
-  phase_runs c (AfterRelease weak waiting) below next step = absurd (cc)
-  phase_runs c Finalizing below next step = absurd (cc)
-  phase_runs c (AfterFinalizing o) below next step = absurd (cc)
   phase_runs c Split below next step = ap (λ (v : World). v.outcome) step.world
-  phase_runs c Turns below next step = absurd (cc)
-  phase_runs c (Turn o) below next step = absurd (cc)
-  phase_runs c (AfterTurn o) below next step = absurd (cc)
-  phase_runs c Ending below next step = absurd (cc)
+  phase_runs c _ below next step = absurd (cc)
 
   stack_runs : (stack : List Activity) → next_detection stack ≡ Some d → StepOf script w stack events after → after.outcome ≡ w.outcome
-  stack_runs [] next step = absurd (cc)
-  stack_runs (TopLevel commands ∷ below) next step = absurd (cc)
-  stack_runs (Framed f ∷ below) next step = absurd (cc)
-  stack_runs (Releasing references ∷ below) next step = absurd (cc)
-  stack_runs (Dying death ∷ below) next step = absurd (cc)
   stack_runs (Collecting c ∷ below) next step = phase_runs c c.phase below next step
-  stack_runs (ShuttingDown started ∷ below) next step = absurd (cc)
+  stack_runs _ next step = absurd (cc)
 
   detection_runs : next_detection w.stack ≡ Some d → Step script w events after → after.outcome ≡ Running
   detection_runs next step = stack_runs w.stack next step.step ∙ step.running
@@ -63,15 +49,11 @@ module _ (script : Script) (w after : World) (events : List Event) (d : Detectio
 -- the lists of a heap with rows still to be removed
 later_list : (phase : Phase) (store : Store) (p : Place) → list_at (store_after phase store) p ≡ list_at store p
 later_list (phase_of.Living next) store p = refl
-later_list (phase_of.Detaching next) store p = refl
-later_list (phase_of.Unlinking member weak) store p = refl
-later_list phase store p = refl
+later_list _ store p = refl
 
 later_listed : (phase : Phase) (store : Store) → IsListed store → IsListed (store_after phase store)
 later_listed (phase_of.Living next) store l = record { ten = l.ten; placed = l.placed; once = l.once }
-later_listed (phase_of.Detaching next) store l = record { ten = l.ten; placed = l.placed; once = l.once }
-later_listed (phase_of.Unlinking member weak) store l = record { ten = l.ten; placed = l.placed; once = l.once }
-later_listed phase store l = l
+later_listed _ store l = record { ten = l.ten; placed = l.placed; once = l.once }
 
 -- the objects in a place of an engine's heap are those of its world
 pub alike_now : (script : Script) (e : State) (left : List Event) (w : World) → StandsWith script e left w → IsListed e.store → (p : Place) → SameMembers (list_at e.store p) (serials_at w.objects p)

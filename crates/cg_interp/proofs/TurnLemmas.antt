@@ -1,5 +1,5 @@
 -- A turn of the top activity is a turn of the engine.
-use Rattle.std.proofs.Common.{◌≡◌, ◌≢◌, sym, ◌∙◌, ap, subst, ℕ, true, false, inl, inr, List, [], ◌∷◌}
+use Rattle.std.proofs.Common.{◌≡◌, ◌≢◌, refl, sym, ◌∙◌, ap, subst, ℕ, true, false, inl, inr, List, [], ◌∷◌}
 use Rattle.cg_script.specs.declared.Script.{Script}
 use Rattle.cg_graph.proofs.Members.{either}
 use Rattle.cg_machine.specs.declared.event.Event.{Event}
@@ -19,10 +19,10 @@ use Rattle.cg_interp.proofs.CallerLemmas.{same_engine}
 use Rattle.cg_interp.proofs.AnswersOfTurns.{turns_moving}
 
 -- With anything but a collection on top, no line is left.
-pub stands_plainly : (script : Script) (top : Own) (e : State) (left : List Event) (w : World) → is_collecting top ≡ false → StandsWith script (under top e)
-    left w → StandsFor script (under top e) w × (left ≡ [])
-stands_plainly script top e left w plain stands = either stands (λ plainly. plainly) (λ (on_top : CollectsOnTop script (under top e) left w).
-    let heads : (top ∷ e.activities) ≡ activity.Collecting on_top.asked on_top.collection ∷ on_top.rest = on_top.top in
+pub stands_above : (script : Script) (e : State) (top : Own) (rest : List Own) (left : List Event) (w : World) → e.activities ≡ top ∷ rest → is_collecting top ≡ false → StandsWith script e
+    left w → StandsFor script e w × (left ≡ [])
+stands_above script e top rest left w is plain stands = either stands (λ plainly. plainly) (λ (on_top : CollectsOnTop script e left w).
+    let heads : (top ∷ rest) ≡ activity.Collecting on_top.asked on_top.collection ∷ on_top.rest = sym is ∙ on_top.top in
     let same : top ≡ activity.Collecting on_top.asked on_top.collection = cc in
     let clash : false ≡ true = sym plain ∙ ap is_collecting same in
     absurd (cc))
@@ -30,7 +30,7 @@ stands_plainly script top e left w plain stands = either stands (λ plainly. pla
 -- So a turn of it is a turn of the engine.
 pub turns_any : (script : Script) (top : Own) (old new : State) (answer : Turned) → is_collecting top ≡ false → TurnsFrom script top old new answer → TurnsAny script (under top old) new answer
 turns_any script top old new answer plain turns w left stands kept =
-    let plainly = stands_plainly script top old left w plain stands in
+    let plainly = stands_above script (under top old) top old.activities left w refl plain stands in
     subst (λ l. TurnsWith script (Advances (under top old) l new) w l new answer) (sym plainly.1) (turns_moving script (Advances (under top old) [] new) w [] new answer (turns w plainly.0 kept))
 
 -- another engine with the same parts, even if a collection on top has lines left

@@ -5,7 +5,7 @@ use Rattle.std.specs.FinMap as fin
 use Rattle.std.proofs.lemmas.Bool.{eqb-true, eq-eqb}
 use Rattle.std.proofs.lemmas.Bool.Decides.{nat_tests}
 use Rattle.cg_value.specs.declared.Place.{Place}
-use Rattle.cg_value.specs.declared.Place.TheVariants.{Untracked, Gen, Frozen, Cand, Seen, Back, Legacy, Pend}
+use Rattle.cg_value.specs.declared.Place.TheVariants.{Untracked, Gen, Cand, Legacy}
 use Rattle.cg_script.specs.declared.Script.{Script}
 use Rattle.cg_graph.specs.Member.{Includes, includes}
 use Rattle.cg_graph.specs.Value.{references}
@@ -63,18 +63,12 @@ lives_or (Some n) = inl refl
 
 -- a place that a first pass examines is a generation up to its own
 same_gen : (g : ℕ) (p : Place) → same_place (merged_place g p) (Gen g) ≡ true → (i : ℕ) × (i ≤ g) × (p ≡ Gen i)
-same_gen g Untracked e = absurd (cc)
 same_gen g (Gen i) e = go (nat_le i g) refl
   where
     go : (b : Bool) → nat_le i g ≡ b → (j : ℕ) × (j ≤ g) × (Gen i ≡ Gen j)
     go true le = (i, grind (arith, nat_tests, le), refl)
     go false above = (i, (let same : i == g ≡ true = ap (λ b. same_place (if b then Gen g else Gen i) (Gen g)) (sym above) ∙ e in omega (arith, eqb-true i g same)), refl)
-same_gen g Frozen e = absurd (cc)
-same_gen g Cand e = absurd (cc)
-same_gen g Seen e = absurd (cc)
-same_gen g Back e = absurd (cc)
-same_gen g Legacy e = absurd (cc)
-same_gen g Pend e = absurd (cc)
+same_gen g _ e = absurd (cc)
 
 gen_same : (g i : ℕ) → i ≤ g → same_place (merged_place g (Gen i)) (Gen g) ≡ true
 gen_same g i le = let yes : nat_le i g ≡ true = grind (arith, nat_tests, le) in ap (λ b. same_place (if b then Gen g else Gen i) (Gen g)) yes ∙ eq-eqb g g refl

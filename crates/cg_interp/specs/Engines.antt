@@ -1,5 +1,5 @@
 -- What an engine is, and the worlds of the machine that it represents. (Ours.)
-use Rattle.std.specs.Prelude.{◌≡◌, ◌≢◌, ℕ, ◌++◌, Bool, true, false, List, [], ◌∷◌, drop, Option, None, Some}
+use Rattle.std.specs.Prelude.{◌≡◌, ◌≢◌, ℕ, ◌+◌, ◌++◌, Bool, true, false, List, [], ◌∷◌, drop, Option, None, Some}
 use Rattle.std.specs.List.{list_any}
 use Rattle.cg_script.specs.declared.Script.{Script}
 use Rattle.cg_script.specs.declared.Command.{Command}
@@ -34,6 +34,10 @@ pub record State : Type 0 where
 -- an engine with another activity on top
 abbrev pub under : Activity → State → State
 under top e = record e { activities = top ∷ e.activities }
+
+-- an engine with these activities, which are below its top: the room of the top is free again
+abbrev pub lowered : List Activity → State → State
+lowered below e = record e { activities = below; room = e.room + 1 }
 
 -- an engine with another heap
 abbrev pub over : Store → State → State

@@ -1,6 +1,7 @@
 pub mod Stacks
 pub mod Engines
 pub mod Slots
+pub mod Lends
 pub mod Releases
 pub mod Turns
 pub mod Collecting

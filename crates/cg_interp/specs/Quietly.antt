@@ -1,5 +1,5 @@
 -- What happens without a line and without a reachability pass, so that a turn may include the next step. (Ours.)
-use Rattle.std.specs.Prelude.{◌≡◌, ◌≤◌, ◌⊎◌, ℕ, Bool, false, List, [], ◌++◌, Option, None, Some}
+use Rattle.std.specs.Prelude.{◌≡◌, ◌≤◌, ◌⊎◌, ℕ, Bool, false, List, [], ◌∷◌, ◌++◌, Option, None, Some}
 use Rattle.cg_script.specs.declared.Script.{Script}
 use Rattle.cg_script.specs.declared.limits.TheConstants.{MOST_BUDGET}
 use Rattle.cg_machine.specs.declared.event.Event.{Event}
@@ -20,13 +20,13 @@ use Rattle.cg_collect.specs.declared.collection.Collection.{Collection}
 use Rattle.cg_collect.specs.declared.answer.CollectStep.{CollectStep}
 use Rattle.cg_collect.specs.declared.answer.CollectStep.TheVariants as collect_answer
 use Rattle.cg_collect.specs.Answers.{CollectSteps}
-use Rattle.cg_collect.specs.Collections.{CollectFalls}
+use Rattle.cg_collect.specs.Collections.{CollectFalls, KeepsReady}
 use Rattle.cg_interp.specs.declared.activity.Activity.{Activity}
 use Rattle.cg_interp.specs.declared.activity.Activity.TheVariants as activity
 use Rattle.cg_interp.specs.Engines.{State, StandsFor, under, over, over_both}
 use Rattle.cg_interp.specs.Collecting.{Collects}
 use Rattle.cg_interp.specs.Telling.{CollectsNext}
-use Rattle.cg_interp.specs.Turns.{GoesTo, GivesDeath}
+use Rattle.cg_interp.specs.Turns.{GoesTo, GivesDeath, StaysOn}
 
 -- The machine goes from one world to another in zero or more steps, without a line and without a reachability pass.
 pub record GoesQuietly (script : Script) (w after : World) : Type 0 where
@@ -73,6 +73,28 @@ abbrev pub Acts : Script → Store → Death → Store → Death → DeathStep �
 Acts script store death now after answer = (e : State) (w : World) → StandsFor script (under (activity.Dying death) (over store e)) w
     → StaysKept script e.first_budget w → LastAction script w e now after answer
 
+-- A death is on top of an engine that represents a world of a run; the engine's first budget is allowed.
+pub record DiesNext (script : Script) (e : State) : Type 0 where
+  pub death : Death
+  pub below : List Activity
+  pub top : e.activities ≡ activity.Dying death ∷ below
+  pub world : World
+  pub stands : StandsFor script e world
+  pub kept : StaysKept script e.first_budget world
+  pub first_budget : e.first_budget ≤ MOST_BUDGET
+
+-- The death on top of an engine took its actions in its place, up to an answer. It is taken off if it is over.
+pub record ActsOnTop (script : Script) (old new : State) (answer : DeathStep) : Type 0 where
+  pub before : Death
+  pub after : Death
+  pub below : List Activity
+  pub top : old.activities ≡ activity.Dying before ∷ below
+  pub acts : Acts script old.store before new.store after answer
+  pub stays : StaysOn after below new.activities
+  pub over : answer ≡ answer_of.Gone → on_stack after new.store ≡ []
+  pub policy : new.policy ≡ old.policy
+  pub budget : new.budget ≡ old.budget
+
 -- some death is the cause of an answer
 abbrev pub HasSomeCause : Store → DeathStep → Type 0
 HasSomeCause now answer = (death : Death) × HasCause death now answer
@@ -109,3 +131,11 @@ pub record LastStep (script : Script) (old : Collection) (store : Store) (policy
 -- A collection is on top of a fit engine, and may make its next step.
 abbrev pub IsCollecting : Script → Collection → Store → Policy → Type 0
 IsCollecting script c store policy = (asked : Bool) × (e : State) × CollectsNext script asked c (over_both store policy e)
+
+-- The collection on top of these activities made its steps in its place, up to an answer.
+pub record StepsOnTop (script : Script) (asked : Bool) (before : Collection) (below : List Activity) (old new : State) (answer : CollectStep) : Type 0 where
+  pub after : Collection
+  pub stays : new.activities ≡ activity.Collecting asked after ∷ below
+  pub last : LastStep script before old.store old.policy after new.store new.policy answer
+  pub ready : KeepsReady script after new.store answer
+  pub budget : new.budget ≡ old.budget

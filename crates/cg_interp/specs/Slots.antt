@@ -1,5 +1,6 @@
 -- How the stack stores its activities: a collection is stored in a separate seat. (Ours.)
 use Rattle.std.specs.Prelude.{◌≡◌, Bool, true, false, List, Option, None, Some, IsSome, count_by, length, option_to_list}
+use Rattle.cg_death.specs.declared.death.Death.{Death}
 use Rattle.cg_collect.specs.declared.collection.Collection.{Collection}
 use Rattle.cg_interp.specs.declared.activity.Activity.{Activity}
 use Rattle.cg_interp.specs.declared.activity.Activity.TheVariants as activity
@@ -37,3 +38,8 @@ IsSeatOf slots seat = count_by takes_seat slots ≡ length (option_to_list seat)
 pub record Seats (top : Slot) (without with : Option Collection) : Type 0 where
   pub takes : takes_seat top ≡ true → (without ≡ None) × IsSome with
   pub leaves : takes_seat top ≡ false → with ≡ without
+
+-- the death in a slot, if any
+abbrev pub death_at : Slot → Option Death
+death_at (slot.Dying death) = Some death
+death_at top = None

@@ -14,7 +14,7 @@ use Rattle.cg_interp.specs.declared.activity.Activity.{Activity}
 use Rattle.cg_interp.specs.declared.activity.Activity.TheVariants as activity
 use Rattle.cg_interp.specs.declared.turned.Turned.{Turned}
 use Rattle.cg_interp.specs.declared.turned.Turned.TheVariants as turned
-use Rattle.cg_interp.specs.Engines.{State, StandsFor, under}
+use Rattle.cg_interp.specs.Engines.{State, StandsFor, under, lowered}
 use Rattle.cg_interp.specs.Collecting.{StandsWith, Collects}
 use Rattle.cg_interp.specs.Turns.{RunEndsWith, IsFit}
 
@@ -80,6 +80,13 @@ pub record CollectsNext (script : Script) (asked : Bool) (c : Collection) (e : S
   pub left : List Event
   pub collects : Collects script asked c e left world
   pub kept : StaysKept script e.first_budget world
+
+-- A collection is on top of an engine, and may make its next step.
+pub record CollectsNextOnTop (script : Script) (asked : Bool) (e : State) : Type 0 where
+  pub collection : Collection
+  pub below : List Activity
+  pub top : e.activities ≡ activity.Collecting asked collection ∷ below
+  pub next : CollectsNext script asked collection (lowered below e)
 
 -- From each such world the machine goes on as answered.
 abbrev pub CollectTurns : Script → Bool → Collection → State → State → Turned → Type 0

@@ -1,5 +1,5 @@
 //! A collection: how one begins, and its turns.
-ghost use Rattle.std.specs.Prelude.{◌≡◌, ◌↔◌, ◌<◌, ◌≤◌, true, false, []};
+ghost use Rattle.std.specs.Prelude.{◌≡◌, ◌↔◌, ◌<◌, ◌≤◌, Bool, true, false, List, [], ◌∷◌, Some};
 ghost use Rattle.cg_death.specs.Answers.{MakesNone};
 ghost use Rattle.cg_machine.specs.World.{World, push};
 ghost use Rattle.cg_machine.specs.Commands.{new_collection};
@@ -8,15 +8,18 @@ ghost use Rattle.cg_laws.specs.Kept.{StaysKept};
 ghost use Rattle.cg_script.specs.declared.Script.{Script as AnyScript};
 ghost use Rattle.cg_script.specs.Spelled.{IsSpelled};
 ghost use Rattle.cg_collect.specs.declared.answer.CollectStep.TheVariants as answer_of;
+ghost use Rattle.cg_collect.specs.declared.collection.Collection.{Collection as AnyCollection};
 ghost use Rattle.cg_collect.specs.declared.stage.Stage.TheVariants as stage;
 ghost use Rattle.cg_collect.specs.Stages.{stage_of};
 ghost use Rattle.cg_collect.specs.Collections.{KeepsReady, DiesUnheld};
+ghost use Rattle.cg_interp.specs.declared.activity.Activity.{Activity as AnyActivity};
 ghost use Rattle.cg_interp.specs.declared.activity.Activity.TheVariants as activity_of;
-ghost use Rattle.cg_interp.specs.Engines.{StandsFor, under};
+ghost use Rattle.cg_interp.specs.Engines.{StandsFor, under, lowered};
+ghost use Rattle.cg_interp.specs.Stacks.{asked_on};
 ghost use Rattle.cg_interp.specs.declared.turned.Turned.TheVariants as turned_of;
 ghost use Rattle.cg_interp.specs.Collecting.{StandsWith};
-ghost use Rattle.cg_interp.specs.Telling.{IsAtAnyTurn, TurnsAny, CollectsNext, CollectTurns};
-ghost use Rattle.cg_interp.specs.Quietly.{IsCollecting, LastStep};
+ghost use Rattle.cg_interp.specs.Telling.{IsAtAnyTurn, TurnsAny, CollectsNextOnTop, CollectTurns};
+ghost use Rattle.cg_interp.specs.Quietly.{IsCollecting, LastStep, StepsOnTop};
 ghost use Rattle.cg_interp.specs.Turns.{IsFit, TurnKeeps, StaysFit};
 
 use crate::activity::Activity;
@@ -50,72 +53,71 @@ impl<B: Kind> Engine<B> {
         self.stack.push(Activity::Collecting { asked, collection });
     }
 
-    /// A turn of a collection, taken from the top.
+    /// A turn of the collection on top.
     #[inline(always)]
     pub fn turn_of_collection<L: Ledger>(
         &mut self,
         asked: bool,
-        collection: Collection,
         script: &Script,
         steps: &mut Steps<L>,
     ) -> Turned
-        requires fit { IsFit script.now self.old }
-        requires stands { IsAtAnyTurn script.now (under (activity_of.Collecting asked collection)
-            self.old) }
-        ensures turns { TurnsAny script.now (under (activity_of.Collecting asked collection)
-            self.old) self.new result }
+        requires asked { asked_on self.old.activities ≡ Some asked }
+        requires stands { IsAtAnyTurn script.now self.old }
+        ensures turns { TurnsAny script.now self.old self.new result }
         ensures fit { StaysFit self.old self.new }
     {
         self.heap.sound();
-        self.go_on_collecting(asked, collection, script, steps)
+        self.go_on_collecting(asked, script, steps)
     }
 
-    /// Makes the steps of a collection, taken from the top, as long as there is nothing to print.
+    /// Makes the steps of the collection on top, as long as there is nothing to print.
     #[inline(always)]
     fn go_on_collecting<L: Ledger>(
         &mut self,
         asked: bool,
-        collection: Collection,
         script: &Script,
         steps: &mut Steps<L>,
     ) -> Turned
-        requires room { 1 < self.old.room }
-        requires stands { CollectsNext script.now asked collection self.old }
-        ensures turns { CollectTurns script.now asked collection self.old self.new result }
+        requires stands { CollectsNextOnTop script.now asked self.old }
+        ensures turns { (c : AnyCollection) (below : List AnyActivity)
+            → self.old.activities ≡ activity_of.Collecting asked c ∷ below
+            → CollectTurns script.now asked c (lowered below self.old) self.new result }
         ensures keeps { TurnKeeps self.old self.new }
     {
-        let mut collection = collection;
-        let answer = collect_on(
-            &mut self.heap,
-            &mut self.policy,
-            &mut collection,
-            script,
-            steps,
-        );
-        match answer {
-            CollectStep::Continue => {
-                self.stack.push(Activity::Collecting { asked, collection });
-                Turned::Quiet
-            }
-            CollectStep::Emit(event) => {
-                self.stack.push(Activity::Collecting { asked, collection });
-                Turned::Line(event)
-            }
+        match self.collect_on_top(script, steps) {
+            CollectStep::Continue => Turned::Quiet,
+            CollectStep::Emit(event) => Turned::Line(event),
             CollectStep::Frame(spec) => {
                 self.heap.sound();
-                self.stack.push(Activity::Collecting { asked, collection });
                 self.start(spec)
             }
             CollectStep::Died(object) => {
-                self.stack.push(Activity::Collecting { asked, collection });
                 self.die(object);
                 Turned::Quiet
             }
             CollectStep::Finished {
                 collected,
                 uncollectable,
-            } => answered(asked, collected + uncollectable),
+            } => {
+                self.stack.pop();
+                answered(asked, collected + uncollectable)
+            }
         }
+    }
+
+    /// Makes the steps of the collection on top, in its place, until one ends the turn.
+    #[inline(always)]
+    fn collect_on_top<L: Ledger>(&mut self, script: &Script, steps: &mut Steps<L>) -> CollectStep
+        requires stands { (asked : Bool) × CollectsNextOnTop script.now asked self.old }
+        ensures steps { (asked : Bool) (c : AnyCollection) (below : List AnyActivity)
+            → self.old.activities ≡ activity_of.Collecting asked c ∷ below
+            → StepsOnTop script.now asked c below self.old self.new result }
+        ensures died { DiesUnheld result self.new.store }
+        ensures room { self.new.room ≡ self.old.room }
+        ensures keeps { TurnKeeps self.old self.new }
+    {
+        let collection = self.stack.collection_on_top_mut();
+        collect_on(&mut self.heap, &mut self.policy, collection, script, steps)
     }
 }
 

@@ -1,5 +1,5 @@
 //! A death on top of the stack.
-ghost use Rattle.std.specs.Prelude.{◌≡◌, ◌≢◌, ◌<◌, ◌≤◌, ◌+◌, []};
+ghost use Rattle.std.specs.Prelude.{◌≡◌, ◌≢◌, ◌<◌, ◌≤◌, []};
 ghost use Rattle.cg_script.specs.declared.Script.{Script as AnyScript};
 ghost use Rattle.cg_machine.specs.World.{World};
 ghost use Rattle.cg_machine.specs.Frame.{begin_death};
@@ -10,11 +10,9 @@ ghost use Rattle.cg_death.specs.Steady.{DiesUnheld};
 ghost use Rattle.cg_death.specs.Answers.{numbers_after, MakesNone};
 ghost use Rattle.cg_policy.specs.Policy.{with_numbers};
 ghost use Rattle.cg_laws.specs.Kept.{StaysKept};
-ghost use Rattle.cg_interp.specs.declared.activity.Activity.TheVariants as activity_of;
-ghost use Rattle.cg_interp.specs.Engines.{StandsFor, under};
-ghost use Rattle.cg_interp.specs.Quietly.{IsActing, Acts, HasSomeCause};
-ghost use Rattle.cg_interp.specs.Telling.{IsAtTurn};
-ghost use Rattle.cg_interp.specs.Turns.{DyingIsSound, Turns, StaysOn, TurnKeeps, HasOtherStack};
+ghost use Rattle.cg_interp.specs.Engines.{StandsFor};
+ghost use Rattle.cg_interp.specs.Quietly.{IsActing, Acts, DiesNext, ActsOnTop, HasSomeCause};
+ghost use Rattle.cg_interp.specs.Turns.{DyingIsSound, Turns, TurnKeeps};
 
 use crate::activity::Activity;
 use crate::engine::Engine;
@@ -40,21 +38,17 @@ impl<B: Kind> Engine<B> {
         self.stack.push(Activity::Dying(death));
     }
 
-    /// The actions of a death, which was on top, one after the other, as long as the machine goes
-    /// on without a line. The death begins of another object that nothing holds any more.
+    /// The actions of the death on top one after the other, as long as the machine goes on without
+    /// a line. The death begins of another object that nothing holds any more.
     #[inline(always)]
-    pub fn go_on_dying(&mut self, death: Death, script: &Script) -> Turned
-        requires room { 1 < self.old.room }
-        requires stands { IsAtTurn script.now (activity_of.Dying death) self.old }
-        ensures turns { (w : World) → StandsFor script.now (under (activity_of.Dying death)
-            self.old) w
+    pub fn go_on_dying(&mut self, script: &Script) -> Turned
+        requires room { 0 < self.old.room }
+        requires stands { DiesNext script.now self.old }
+        ensures turns { (w : World) → StandsFor script.now self.old w
             → StaysKept script.now self.old.first_budget w → Turns script.now w self.new result }
         ensures keeps { TurnKeeps self.old self.new }
     {
-        let mut death = death;
-        let answer = act(&mut self.heap, &mut death, script);
-        self.put_back(death);
-        match answer {
+        match self.act_on_top(script) {
             DeathStep::Continue => unreachable!(),
             DeathStep::Gone => Turned::Quiet,
             DeathStep::Emit(event) => {
@@ -69,6 +63,26 @@ impl<B: Kind> Engine<B> {
         }
     }
 
+    /// Takes the actions of the death on top, in its place, until one ends the turn. A death that
+    /// is over is taken off.
+    #[inline(always)]
+    fn act_on_top(&mut self, script: &Script) -> DeathStep
+        requires stands { DiesNext script.now self.old }
+        ensures acts { ActsOnTop script.now self.old self.new result }
+        ensures more { result ≢ answer_of.Continue }
+        ensures cause { HasSomeCause self.new.store result }
+        ensures died { DiesUnheld result self.new.store }
+        ensures room { self.old.room ≤ self.new.room }
+        ensures keeps { TurnKeeps self.old self.new }
+    {
+        let death = self.stack.death_on_top_mut();
+        let answer = act(&mut self.heap, death, script);
+        if death.is_over() {
+            self.stack.pop();
+        }
+        answer
+    }
+
     /// Makes the policy count a freed object, if a line reports one.
     fn count_freed(&mut self, event: Event)
         ensures counts { self.new.policy
@@ -81,20 +95,6 @@ impl<B: Kind> Engine<B> {
         match event {
             Event::Free(_) => self.policy.freed(),
             _ => {}
-        }
-    }
-
-    /// Puts a death back, unless it is over.
-    #[inline(always)]
-    fn put_back(&mut self, death: Death)
-        requires { 0 < self.old.room }
-        ensures stays { StaysOn death self.old.activities self.new.activities }
-        ensures alone { HasOtherStack self.old self.new }
-        ensures room { self.old.room ≤ self.new.room + 1 }
-        ensures keeps { TurnKeeps self.old self.new }
-    {
-        if !death.is_over() {
-            self.stack.push(Activity::Dying(death));
         }
     }
 }

@@ -1,7 +1,8 @@
 //! How the stack stores an activity: a collection is stored in a separate seat.
-ghost use Rattle.std.specs.Prelude.{◌≡◌, true, None, IsSome};
+ghost use Rattle.std.specs.Prelude.{◌≡◌, true, None, Some, IsSome};
+ghost use Rattle.std.specs.Borrow.{Lends, sem};
 ghost use Rattle.cg_interp.specs.Engines.{is_collecting};
-ghost use Rattle.cg_interp.specs.Slots.{filled, takes_seat, Seats};
+ghost use Rattle.cg_interp.specs.Slots.{filled, takes_seat, Seats, death_at};
 
 use crate::activity::Activity;
 use cg_collect::Collection;
@@ -34,6 +35,25 @@ pub enum Slot {
     Collecting {
         asked: bool,
     },
+}
+
+impl Slot {
+    ghost use Rattle.cg_death.specs.contracts.death.Death as death_type;
+    ghost use Rattle.cg_interp.specs.contracts.slot.Slot.{the_row};
+
+    /// The death in this slot, which must be one, to be changed in its place.
+    #[inline(always)]
+    pub fn death_mut(&mut self) -> &mut Death
+        requires { IsSome (death_at self.old) }
+        ensures* writes_back { sem 𝓛 (Lends the_row death_type.the_row self.entry result
+            Slot.Dying) }
+        ensures value { death_at self.old ≡ Some result.now }
+    {
+        match self {
+            Slot::Dying(death) => death,
+            _ => unreachable!(),
+        }
+    }
 }
 
 /// The slot of an activity. A collection moves into the seat, which is empty.

@@ -1,11 +1,13 @@
 //! The stack of activities. Its room is reserved in advance.
-ghost use Rattle.std.specs.Prelude.{◌≡◌, ◌<◌, ◌≤◌, ◌+◌, [], ◌∷◌, true, false, None, Some, IfOk, IfSome, OnSome, IfNone, OnOk, length};
+ghost use Rattle.std.specs.Prelude.{◌≡◌, ◌<◌, ◌≤◌, ◌+◌, [], ◌∷◌, true, false, None, Some, IfOk, IfSome, IsSome, OnSome, IfNone, OnOk, is_some, length};
+ghost use Rattle.std.specs.Borrow.{sem};
 ghost use Rattle.cg_interp.specs.Engines.{is_collecting, any_collecting};
-ghost use Rattle.cg_interp.specs.Stacks.{collection_on};
+ghost use Rattle.cg_interp.specs.Stacks.{collection_on, death_on, asked_on};
 
 use crate::activity::Activity;
 use crate::slot::{Slot, activity_of, slot_of};
 use cg_collect::Collection;
+use cg_death::Death;
 use std::alloc::{AllocError, Global};
 use std::marker::Model;
 
@@ -34,6 +36,8 @@ impl Model for Stack {
 }
 
 impl Stack {
+    ghost use Rattle.cg_interp.specs.Lends.{lends_death, lends_collection};
+
     /// An empty stack with this much room. Answers `AllocError` only if memory runs out.
     pub fn new(alloc: Global, room: usize) -> Result<Stack, AllocError>
         ensures empty { IfOk result (λ s. s.activities ≡ []) }
@@ -72,6 +76,28 @@ impl Stack {
         }
     }
 
+    /// Whether a death is on top.
+    #[inline(always)]
+    pub fn has_death_on_top(&self) -> bool
+        ensures { result ≡ is_some (death_on self.now.activities) }
+    {
+        match self.slots.last() {
+            Some(Slot::Dying(_)) => true,
+            _ => false,
+        }
+    }
+
+    /// The death on top, which must be there, to be changed in its place.
+    #[inline(always)]
+    pub fn death_on_top_mut(&mut self) -> &mut Death
+        requires { IsSome (death_on self.old.activities) }
+        ensures* writes_back { sem 𝓛 (lends_death self.entry result) }
+        ensures value { death_on self.old.activities ≡ Some result.now }
+    {
+        let top = self.slots.len() - 1;
+        self.slots[top].death_mut()
+    }
+
     /// The collection on top, if any.
     pub fn collection_on_top(&self) -> Option<&Collection>
         ensures some { IfSome result (λ c. collection_on self.now.activities ≡ Some c.now) }
@@ -80,6 +106,30 @@ impl Stack {
         match self.slots.last() {
             Some(Slot::Collecting { .. }) => self.seat.as_ref(),
             _ => None,
+        }
+    }
+
+    /// Whether a command asked for the collection on top, if one is there.
+    #[inline(always)]
+    pub fn asked_on_top(&self) -> Option<bool>
+        ensures { result ≡ asked_on self.now.activities }
+    {
+        match self.slots.last() {
+            Some(Slot::Collecting { asked }) => Some(*asked),
+            _ => None,
+        }
+    }
+
+    /// The collection on top, which must be there, to be changed in its place.
+    #[inline(always)]
+    pub fn collection_on_top_mut(&mut self) -> &mut Collection
+        requires { IsSome (asked_on self.old.activities) }
+        ensures* writes_back { sem 𝓛 (lends_collection self.entry result) }
+        ensures value { collection_on self.old.activities ≡ Some result.now }
+    {
+        match &mut self.seat {
+            Some(collection) => collection,
+            None => unreachable!(),
         }
     }
 

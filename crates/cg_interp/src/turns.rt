@@ -1,14 +1,16 @@
 //! One turn of a run.
+ghost use Rattle.std.specs.Prelude.{◌≡◌, None, IsSome};
 ghost use Rattle.cg_script.specs.declared.Script.{Script as AnyScript};
 ghost use Rattle.cg_interp.specs.declared.activity.Activity.TheVariants as activity_of;
 ghost use Rattle.cg_interp.specs.Engines.{under};
+ghost use Rattle.cg_interp.specs.Stacks.{death_in, death_on, asked_in, asked_on};
 ghost use Rattle.cg_interp.specs.Turns.{IsFit, StaysFit};
 ghost use Rattle.cg_interp.specs.Telling.{IsAtTurn, TurnsFrom, IsAtAnyTurn, TurnsAny};
 
 use crate::activity::Activity;
 use crate::engine::Engine;
 use crate::turned::Turned;
-use cg_death::{Death, Release};
+use cg_death::Release;
 use cg_heap::Steps;
 use cg_kind::Kind;
 use cg_script::Script;
@@ -21,15 +23,35 @@ impl<B: Kind> Engine<B> {
         ensures turns { TurnsAny script.now self.old self.new result }
         ensures fit { StaysFit self.old self.new }
     {
+        if self.stack.has_death_on_top() {
+            self.turn_of_death(script)
+        } else if let Some(asked) = self.stack.asked_on_top() {
+            self.turn_of_collection(asked, script, steps)
+        } else {
+            self.turn_of_another(script)
+        }
+    }
+
+    /// A turn of an activity on top that is neither a death nor a collection. It is taken off.
+    #[inline(always)]
+    fn turn_of_another(&mut self, script: &Script) -> Turned
+        requires no_death { death_on self.old.activities ≡ None }
+        requires no_collection { asked_on self.old.activities ≡ None }
+        requires stands { IsAtAnyTurn script.now self.old }
+        ensures turns { TurnsAny script.now self.old self.new result }
+        ensures fit { StaysFit self.old self.new }
+    {
         match self.stack.pop() {
-            Some(top) => self.turn_of(top, script, steps),
+            Some(top) => self.turn_of(top, script),
             None => unreachable!(),
         }
     }
 
-    /// A turn of the activity taken from the top.
+    /// The same, taken from the top.
     #[inline(always)]
-    fn turn_of<L: Ledger>(&mut self, top: Activity, script: &Script, steps: &mut Steps<L>) -> Turned
+    fn turn_of(&mut self, top: Activity, script: &Script) -> Turned
+        requires no_death { death_in top ≡ None }
+        requires no_collection { asked_in top ≡ None }
         requires fit { IsFit script.now self.old }
         requires stands { IsAtAnyTurn script.now (under top self.old) }
         ensures turns { TurnsAny script.now (under top self.old) self.new result }
@@ -44,10 +66,8 @@ impl<B: Kind> Engine<B> {
             } => self.go_on_in(script, locals, procedure, next),
             Activity::Releasing(release) => self.turn_of_release(release),
             Activity::Shutdown { started } => self.turn_of_shutdown(started),
-            Activity::Dying(death) => self.turn_of_death(script, death),
-            Activity::Collecting { asked, collection } => {
-                self.turn_of_collection(asked, collection, script, steps)
-            }
+            Activity::Dying(_) => unreachable!(),
+            Activity::Collecting { .. } => unreachable!(),
         }
     }
 
@@ -80,13 +100,14 @@ impl<B: Kind> Engine<B> {
         }
     }
 
-    /// A turn of a death, taken from the top.
+    /// A turn of the death on top.
     #[inline(always)]
-    fn turn_of_death(&mut self, script: &Script, death: Death) -> Turned
-        requires stands { IsAtTurn script.now (activity_of.Dying death) self.old }
-        ensures turns { TurnsFrom script.now (activity_of.Dying death) self.old self.new result }
+    fn turn_of_death(&mut self, script: &Script) -> Turned
+        requires dying { IsSome (death_on self.old.activities) }
+        requires stands { IsAtAnyTurn script.now self.old }
+        ensures turns { TurnsAny script.now self.old self.new result }
         ensures fit { StaysFit self.old self.new }
     {
-        self.go_on_dying(death, script)
+        self.go_on_dying(script)
     }
 }

@@ -8,29 +8,12 @@ use Rattle.cg_interp.proofs.collecting.collect_on.Goals as goal
 pub collecting-init : goal.collecting-init
 collecting-init g c = came_nowhere c.args.script.now c.args.collection.now c.args.heap.now c.args.policy.now
 
-pub step-answer-requires-clause-few : goal.step-answer-requires-clause-few
-step-answer-requires-clause-few g c =
+pub step-answer-requires : goal.step-answer-requires
+step-answer-requires g c =
     let at = c.requires.stands in
-    (may_step_there c.args.script.now c.args.collection.now c.args.heap.now c.args.policy.now c.collecting.collection c.collecting.heap c.collecting.policy
-    c.collecting.invariant at.0 at.1 at.2 c.sound.ensures).few
-
-pub step-answer-requires-clause-held : goal.step-answer-requires-clause-held
-step-answer-requires-clause-held g c =
-    let at = c.requires.stands in
-    (may_step_there c.args.script.now c.args.collection.now c.args.heap.now c.args.policy.now c.collecting.collection c.collecting.heap c.collecting.policy
-    c.collecting.invariant at.0 at.1 at.2 c.sound.ensures).held
-
-pub step-answer-requires-clause-ready : goal.step-answer-requires-clause-ready
-step-answer-requires-clause-ready g c =
-    let at = c.requires.stands in
-    (may_step_there c.args.script.now c.args.collection.now c.args.heap.now c.args.policy.now c.collecting.collection c.collecting.heap c.collecting.policy
-    c.collecting.invariant at.0 at.1 at.2 c.sound.ensures).ready
-
-pub step-answer-requires-clause-bounded : goal.step-answer-requires-clause-bounded
-step-answer-requires-clause-bounded g c =
-    let at = c.requires.stands in
-    (may_step_there c.args.script.now c.args.collection.now c.args.heap.now c.args.policy.now c.collecting.collection c.collecting.heap c.collecting.policy
-    c.collecting.invariant at.0 at.1 at.2 c.sound.ensures).small
+    let may = may_step_there c.args.script.now c.args.collection.now c.args.heap.now c.args.policy.now c.collecting.collection c.collecting.heap
+    c.collecting.policy c.collecting.invariant at.0 at.1 at.2 c.sound.ensures in
+    record { few = may.few; held = may.held; ready = may.ready; bounded = may.small }
 
 pub collecting-smaller : goal.collecting-smaller
 collecting-smaller g c =

@@ -8,20 +8,14 @@ use Rattle.cg_interp.proofs.deaths.act.Goals as goal
 pub actions-init : goal.actions-init
 actions-init g c = record { came = came_nowhere c.args.script.now c.args.heap.now c.args.death.now; objects = record { objects = omega arith; names = refl } }
 
-pub step-requires-clause-few : goal.step-requires-clause-few
-step-requires-clause-few g c =
-    act_few c.args.script.now c.actions.heap c.actions.death c.sound.ensures (acting_now c.args.script.now c.args.heap.now c.actions.heap c.args.death.now
-    c.actions.death c.actions.invariant.came c.requires.stands)
-
-pub step-requires-clause-held : goal.step-requires-clause-held
-step-requires-clause-held g c =
-    act_held c.args.script.now c.actions.heap c.actions.death c.sound.ensures (acting_now c.args.script.now c.args.heap.now c.actions.heap c.args.death.now
-    c.actions.death c.actions.invariant.came c.requires.stands)
-
-pub step-requires-clause-ready : goal.step-requires-clause-ready
-step-requires-clause-ready g c =
-    act_ready c.args.script.now c.actions.heap c.actions.death c.sound.ensures (acting_now c.args.script.now c.args.heap.now c.actions.heap c.args.death.now
-    c.actions.death c.actions.invariant.came c.requires.stands)
+pub step-requires : goal.step-requires
+step-requires g c =
+    let now = acting_now c.args.script.now c.args.heap.now c.actions.heap c.args.death.now c.actions.death c.actions.invariant.came c.requires.stands in
+    record {
+      few = act_few c.args.script.now c.actions.heap c.actions.death c.sound.ensures now;
+      held = act_held c.args.script.now c.actions.heap c.actions.death c.sound.ensures now;
+      ready = act_ready c.args.script.now c.actions.heap c.actions.death c.sound.ensures now;
+    }
 
 pub actions-smaller : goal.actions-smaller
 actions-smaller g c =

@@ -1,6 +1,7 @@
-use Rattle.std.proofs.Common.{refl, sym, subst}
+use Rattle.std.proofs.Common.{◌≡◌, refl, sym, ◌∙◌, ap, subst, Some, None}
 use Rattle.cg_interp.specs.declared.activity.Activity.TheVariants as activity_of
 use Rattle.cg_interp.specs.Engines.{under}
+use Rattle.cg_interp.specs.Stacks.{death_in, asked_in}
 use Rattle.cg_interp.specs.Telling.{TurnsAny}
 use Rattle.cg_interp.proofs.TurnLemmas.{turns_any}
 use Rattle.cg_interp.proofs.engine.Engine.turn_of.Goals as goal
@@ -27,11 +28,8 @@ returns-in-Shutdown-clause-turns g c =
     (turns_any c.args.script.now (activity_of.Shutdown c.in-Shutdown.started) c.args.self.now c.turn_of_shutdown.new.self c.turn_of_shutdown.result refl
     (c.turn_of_shutdown.ensures.turns c.args.script.now))
 
-pub returns-in-Dying-clause-turns : goal.returns-in-Dying-clause-turns
-returns-in-Dying-clause-turns g c =
-    subst (λ top. TurnsAny c.args.script.now (under top c.args.self.now) c.turn_of_death.new.self c.turn_of_death.result) (sym c.in-Dying.is)
-    (turns_any c.args.script.now (activity_of.Dying c.in-Dying.death) c.args.self.now c.turn_of_death.new.self c.turn_of_death.result refl c.turn_of_death.ensures.turns)
+pub unreachable-requires : goal.unreachable-requires
+unreachable-requires g c = let clash : Some c.in-Dying.field-0 ≡ None = sym (ap death_in c.in-Dying.is) ∙ c.requires.no_death in cc
 
-pub returns-in-Collecting-clause-turns : goal.returns-in-Collecting-clause-turns
-returns-in-Collecting-clause-turns g c =
-    subst (λ top. TurnsAny c.args.script.now (under top c.args.self.now) c.turn_of_collection.new.self c.turn_of_collection.result) (sym c.in-Collecting.is) c.turn_of_collection.ensures.turns
+pub unreachable-requires-in-Collecting : goal.unreachable-requires-in-Collecting
+unreachable-requires-in-Collecting g c = let clash : Some c.in-Collecting.asked ≡ None = sym (ap asked_in c.in-Collecting.is) ∙ c.requires.no_collection in cc

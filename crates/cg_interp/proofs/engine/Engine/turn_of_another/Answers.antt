@@ -1,12 +1,21 @@
 use Rattle.std.proofs.Common.{refl, sym, ◌∙◌, ap, subst, []}
 use Rattle.cg_laws.specs.Kept.{StaysKept}
 use Rattle.cg_interp.specs.Engines.{State, under}
+use Rattle.cg_interp.specs.Stacks.{death_on, asked_on}
 use Rattle.cg_interp.specs.Collecting.{StandsWith}
 use Rattle.cg_interp.specs.Telling.{Advances, TurnsWith}
 use Rattle.cg_interp.proofs.CollectMoves.{engine_of}
 use Rattle.cg_interp.proofs.RoomStays.{fit_then, popped_fit, under_fit}
 use Rattle.cg_interp.proofs.TurnLemmas.{stands_alike, something_on_top}
-use Rattle.cg_interp.proofs.engine.Engine.turn.Goals as goal
+use Rattle.cg_interp.proofs.engine.Engine.turn_of_another.Goals as goal
+
+pub turn_of-requires-clause-no_death : goal.turn_of-requires-clause-no_death
+turn_of-requires-clause-no_death g c =
+    sym (ap death_on (ap (λ (e : State). e.activities) (sym c.self.view_is) ∙ c.in-Some.ensures.top)) ∙ c.requires.no_death
+
+pub turn_of-requires-clause-no_collection : goal.turn_of-requires-clause-no_collection
+turn_of-requires-clause-no_collection g c =
+    sym (ap asked_on (ap (λ (e : State). e.activities) (sym c.self.view_is) ∙ c.in-Some.ensures.top)) ∙ c.requires.no_collection
 
 pub turn_of-requires-clause-fit : goal.turn_of-requires-clause-fit
 turn_of-requires-clause-fit g c =
