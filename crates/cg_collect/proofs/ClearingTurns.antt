@@ -5,7 +5,7 @@ use Rattle.std.specs.FinMap as fin
 use Rattle.cg_value.specs.declared.Val.TheVariants.{Ref}
 use Rattle.cg_value.specs.declared.Entry.{Entry}
 use Rattle.cg_value.specs.declared.KindCode.{KindCode}
-use Rattle.cg_value.specs.declared.KindCode.TheVariants.{List as ListKind, Tuple, Dict, Inst, Func, Weak}
+use Rattle.cg_value.specs.declared.KindCode.TheVariants.{Tuple}
 use Rattle.cg_value.specs.declared.Place.{Place}
 use Rattle.cg_value.specs.declared.Place.TheVariants.{Gen, Cand, Seen, Back, Legacy, Pend}
 use Rattle.cg_script.specs.declared.Script.{Script}
@@ -28,7 +28,6 @@ use Rattle.cg_machine.specs.World as machine
 use Rattle.cg_machine.specs.World.{World, Activity, Releasing, Collecting, with_stack, with_objects, with_change}
 use Rattle.cg_machine.specs.Frame.{Transition}
 use Rattle.cg_machine.specs.Collect.{older, has_flag, save_all, saved, empties, collection_at as machine_at}
-use Rattle.cg_represents.proofs.Representing.{in_one}
 use Rattle.cg_policy.specs.Policy.{Policy}
 use Rattle.cg_policy.specs.Flagset.{bits_of}
 use Rattle.cg_trial.proofs.Lists.{occurs, absent, without-absent, Includes-without}
@@ -53,7 +52,7 @@ use Rattle.cg_collect.proofs.Garbage.{garbage-moved}
 use Rattle.cg_collect.proofs.Pending.{apart_away}
 use Rattle.cg_collect.proofs.WorkLeft.{sum_alike, sum-one_less, saved_names, place-rewritten, place-held, entries-rewritten_other, objects-saved, change-absent, last_entry-append}
 use Rattle.cg_collect.proofs.FinalizerPhase.{still_unsaved, nobody_stands}
-use Rattle.cg_collect.proofs.Worlds.{steps_at, with_same_rows, pending_is, represents_on, represents_giving_up, represents_same}
+use Rattle.cg_collect.proofs.Worlds.{steps_at, with_same_rows, pending_is, represents_on, represents_giving_up, represents_same, went}
 
 -- the machine's turn of a member, by its cases
 abbrev chosen : machine.Collection → Object → List Activity → World → Bool → Bool → Transition
@@ -74,23 +73,13 @@ module _ (store : Store) (listed : IsListed store) (none : slice_get (list_at st
       let c : machine.CollectPhase → machine.Collection = collection_of asked (collection_at facts phase_of.Turns None) in
       let w : World = with_stack (Collecting (c machine.Turns) ∷ below) v in
       let after : World = with_stack (Collecting (c machine.Ending) ∷ below) v in
-      record {
-        events = [];
-        after = after;
-        goes = in_one script w [] after s.running (inr (
-          ap (λ (os : List Object). serials_at os Cand) (sym s.shows.represents.objects)
-              ∙ nobody_stands store listed Cand (none_first (list_at store Cand) none),
-          (refl, refl),
-        ));
-        lines = refl;
-        shows = record {
-          represents = represents_same store v below (c machine.Turns) (c machine.Ending) s.shows.represents s.alone (s.shows.represents.collection (c machine.Turns) (inl refl)) (λ q. refl);
-          numbers = s.shows.numbers;
-          running = s.shows.running;
-          top = refl;
-        };
-        keeps = record { budget = refl; outcome = refl };
-      })
+      went script w [] after s.running (inr (
+        ap (λ (os : List Object). serials_at os Cand) (sym s.shows.represents.objects)
+            ∙ nobody_stands store listed Cand (none_first (list_at store Cand) none),
+        (refl, refl),
+      )) refl
+      (represents_same store v below (c machine.Turns) (c machine.Ending) s.shows.represents s.alone (s.shows.represents.collection (c machine.Turns) (inl refl)) (λ q. refl))
+      s.shows.numbers s.shows.running refl refl refl)
 
 -- An object moves to the older generation.
 module _ (store : Store) (o : ℕ) where
@@ -112,23 +101,13 @@ module _ (store : Store) (o : ℕ) where
       let p : Place = Gen (older facts.generation) in
       let objects : List Object = change (object_placed p) o v.objects in
       let after : World = with_stack (Collecting (c machine.Turns) ∷ below) (with_objects objects v) in
-      record {
-        events = [];
-        after = after;
-        goes = in_one script w [] after s.running (refl, refl);
-        lines = refl;
-        shows = record {
-          represents = represents_on store (moved o p store) v below (c (machine.AfterTurn o)) (c machine.Turns) s.shows.represents s.alone objects
-              (objects-changed store o (with_place p) (object_placed p) (λ s n. refl) ∙ ap (change (object_placed p) o) s.shows.represents.objects)
-              (with_same_rows store (moved o p store) refl refl refl)
-              (none_waits p (older_apart facts.generation) (pending_is store store v below (c (machine.AfterTurn o)) (c machine.Turns) s.shows.represents s.alone))
-              (λ q. omega (arith, outside-moved o p store q));
-          numbers = s.shows.numbers;
-          running = s.shows.running;
-          top = refl;
-        };
-        keeps = record { budget = refl; outcome = refl };
-      })
+      went script w [] after s.running (refl, refl) refl
+      (represents_on store (moved o p store) v below (c (machine.AfterTurn o)) (c machine.Turns) s.shows.represents s.alone objects
+      (objects-changed store o (with_place p) (object_placed p) (λ s n. refl) ∙ ap (change (object_placed p) o) s.shows.represents.objects)
+      (with_same_rows store (moved o p store) refl refl refl)
+      (none_waits p (older_apart facts.generation) (pending_is store store v below (c (machine.AfterTurn o)) (c machine.Turns) s.shows.represents s.alone))
+      (λ q. omega (arith, outside-moved o p store q)))
+      s.shows.numbers s.shows.running refl refl refl)
 
 -- A member of the final set.
 module _ (store : Store) (o : ℕ) (at : place_of store o ≡ Cand) where
@@ -152,27 +131,17 @@ module _ (store : Store) (o : ℕ) (at : place_of store o ≡ Cand) where
         let p : Place = Gen (older facts.generation) in
         let objects : List Object = change (object_placed p) o v.objects in
         let after : World = with_stack (Collecting c ∷ below) (with_objects objects v) in
-        record {
-          events = [];
-          after = after;
-          goes = in_one script w [] after s.running (inl (record {
-            object = x;
-            member = is_member v.objects s.shows.represents.objects;
-            yields = (λ i. (chosen c x below w (sym flag i) (sym tuple i)).0, λ i. (chosen c x below w (sym flag i) (sym tuple i)).1);
-          }));
-          lines = refl;
-          shows = record {
-            represents = represents_on store (moved o p store) v below c c s.shows.represents s.alone objects
-                (objects-changed store o (with_place p) (object_placed p) (λ s n. refl) ∙ ap (change (object_placed p) o) s.shows.represents.objects)
-                (with_same_rows store (moved o p store) refl refl refl)
-                (none_waits store o p (older_apart store o facts.generation) (pending_is store store v below c c s.shows.represents s.alone))
-                (λ q. omega (arith, outside-moved o p store q));
-            numbers = s.shows.numbers;
-            running = s.shows.running;
-            top = refl;
-          };
-          keeps = record { budget = refl; outcome = refl };
-        })
+        went script w [] after s.running (inl (record {
+          object = x;
+          member = is_member v.objects s.shows.represents.objects;
+          yields = (λ i. (chosen c x below w (sym flag i) (sym tuple i)).0, λ i. (chosen c x below w (sym flag i) (sym tuple i)).1);
+        })) refl
+        (represents_on store (moved o p store) v below c c s.shows.represents s.alone objects
+        (objects-changed store o (with_place p) (object_placed p) (λ s n. refl) ∙ ap (change (object_placed p) o) s.shows.represents.objects)
+        (with_same_rows store (moved o p store) refl refl refl)
+        (none_waits store o p (older_apart store o facts.generation) (pending_is store store v below c c s.shows.represents s.alone))
+        (λ q. omega (arith, outside-moved o p store q)))
+        s.shows.numbers s.shows.running refl refl refl)
 
     -- any other is held, to be emptied
     pub turn-held : (script : Script) (facts : Facts) (policy : Policy) → has_flag (bits_of facts.flags) save_all ≡ false → is_tuple x ≡ false
@@ -185,27 +154,17 @@ module _ (store : Store) (o : ℕ) (at : place_of store o ≡ Cand) where
         let w : World = with_stack (Collecting c ∷ below) v in
         let after : World = with_stack (Collecting d ∷ below) v in
         let live : IsLive store o = subst IsSome (sym got) refl in
-        record {
-          events = [];
-          after = after;
-          goes = in_one script w [] after s.running (inl (record {
-            object = x;
-            member = is_member v.objects s.shows.represents.objects;
-            yields = (λ i. (chosen c x below w (sym flag i) (sym tuple i)).0, λ i. (chosen c x below w (sym flag i) (sym tuple i)).1);
-          }));
-          lines = refl;
-          shows = record {
-            represents = represents_on store (held (o ∷ []) store) v below c d s.shows.represents s.alone v.objects
-                (objects-same store (λ s n. more (occurrences s (o ∷ [])) n) (λ s n. refl) ∙ s.shows.represents.objects)
-                (with_same_rows store (held (o ∷ []) store) refl refl refl)
-                (pending_is store store v below c d s.shows.represents s.alone)
-                (λ q. omega (arith, outside-held (o ∷ []) store q (λ h. subst (IsLive store) (sym (only-one o q h)) live)));
-            numbers = s.shows.numbers;
-            running = s.shows.running;
-            top = refl;
-          };
-          keeps = record { budget = refl; outcome = refl };
-        })
+        went script w [] after s.running (inl (record {
+          object = x;
+          member = is_member v.objects s.shows.represents.objects;
+          yields = (λ i. (chosen c x below w (sym flag i) (sym tuple i)).0, λ i. (chosen c x below w (sym flag i) (sym tuple i)).1);
+        })) refl
+        (represents_on store (held (o ∷ []) store) v below c d s.shows.represents s.alone v.objects
+        (objects-same store (λ s n. more (occurrences s (o ∷ [])) n) (λ s n. refl) ∙ s.shows.represents.objects)
+        (with_same_rows store (held (o ∷ []) store) refl refl refl)
+        (pending_is store store v below c d s.shows.represents s.alone)
+        (λ q. omega (arith, outside-held (o ∷ []) store q (λ h. subst (IsLive store) (sym (only-one o q h)) live))))
+        s.shows.numbers s.shows.running refl refl refl)
 
     -- with SAVEALL it is saved
     abbrev kept : Store
@@ -223,28 +182,18 @@ module _ (store : Store) (o : ℕ) (at : place_of store o ≡ Cand) where
         let p : Place = Gen (older facts.generation) in
         let objects : List Object = change (object_placed p) o (saved o v.objects) in
         let after : World = with_stack (Collecting c ∷ below) (with_objects objects v) in
-        record {
-          events = GcSaved o ∷ [];
-          after = after;
-          goes = in_one script w (GcSaved o ∷ []) after s.running (inl (record {
-            object = x;
-            member = is_member v.objects s.shows.represents.objects;
-            yields = (λ i. (chosen c x below w (sym flag i) (is_tuple x)).0, λ i. (chosen c x below w (sym flag i) (is_tuple x)).1);
-          }));
-          lines = refl;
-          shows = record {
-            represents = represents_on store (moved o p kept) v below c c s.shows.represents s.alone objects
-                (objects-changed kept o (with_place p) (object_placed p) (λ s n. refl) ∙ ap (change (object_placed p) o) (objects-saved store o ∙ ap (saved o) s.shows.represents.objects))
-                (with_same_rows store (moved o p kept) refl refl refl)
-                (either (moved-cases kept o p (older_apart store o facts.generation)) (λ e. e ∙ pending_is store store v below c c s.shows.represents s.alone)
-                (λ e. e ∙ ap (without_serial o) (pending_is store store v below c c s.shows.represents s.alone)))
-                (λ q. omega (arith, outside-moved o p kept q, outside-rewritten 1 (entries_of store 1 ++ item (Ref o) ∷ []) store q));
-            numbers = s.shows.numbers;
-            running = s.shows.running;
-            top = refl;
-          };
-          keeps = record { budget = refl; outcome = refl };
-        })
+        went script w (GcSaved o ∷ []) after s.running (inl (record {
+          object = x;
+          member = is_member v.objects s.shows.represents.objects;
+          yields = (λ i. (chosen c x below w (sym flag i) (is_tuple x)).0, λ i. (chosen c x below w (sym flag i) (is_tuple x)).1);
+        })) refl
+        (represents_on store (moved o p kept) v below c c s.shows.represents s.alone objects
+        (objects-changed kept o (with_place p) (object_placed p) (λ s n. refl) ∙ ap (change (object_placed p) o) (objects-saved store o ∙ ap (saved o) s.shows.represents.objects))
+        (with_same_rows store (moved o p kept) refl refl refl)
+        (either (moved-cases kept o p (older_apart store o facts.generation)) (λ e. e ∙ pending_is store store v below c c s.shows.represents s.alone)
+        (λ e. e ∙ ap (without_serial o) (pending_is store store v below c c s.shows.represents s.alone)))
+        (λ q. omega (arith, outside-moved o p kept q, outside-rewritten 1 (entries_of store 1 ++ item (Ref o) ∷ []) store q)))
+        s.shows.numbers s.shows.running refl refl refl)
 
 -- its entries are removed
 module _ (store : Store) (o : ℕ) where
@@ -259,23 +208,13 @@ module _ (store : Store) (o : ℕ) where
       let p : Place = Gen (older facts.generation) in
       let objects : List Object = change (object_placed p) o v.objects in
       let after : World = with_stack (Collecting (c machine.Turns) ∷ below) (with_objects objects v) in
-      record {
-        events = [];
-        after = after;
-        goes = in_one script w [] after s.running (refl, refl);
-        lines = refl;
-        shows = record {
-          represents = represents_on store store v below (c (machine.AfterTurn o)) (c machine.Turns) s.shows.represents s.alone objects
-              (sym (change-absent store (object_placed p) o gone) ∙ ap (change (object_placed p) o) s.shows.represents.objects)
-              (with_same_rows store store refl refl refl)
-              (pending_is store store v below (c (machine.AfterTurn o)) (c machine.Turns) s.shows.represents s.alone)
-              (λ q. omega arith);
-          numbers = s.shows.numbers;
-          running = s.shows.running;
-          top = refl;
-        };
-        keeps = record { budget = refl; outcome = refl };
-      })
+      went script w [] after s.running (refl, refl) refl
+      (represents_on store store v below (c (machine.AfterTurn o)) (c machine.Turns) s.shows.represents s.alone objects
+      (sym (change-absent store (object_placed p) o gone) ∙ ap (change (object_placed p) o) s.shows.represents.objects)
+      (with_same_rows store store refl refl refl)
+      (pending_is store store v below (c (machine.AfterTurn o)) (c machine.Turns) s.shows.represents s.alone)
+      (λ q. omega arith))
+      s.shows.numbers s.shows.running refl refl refl)
 
   pub turn-emptied : (release : Release) → references_left release ≡ o ∷ [] → entries_of store o ≡ [] → (script : Script) (facts : Facts) (policy : Policy)
       → CollectSteps script (collection_at facts (phase_of.Turn o) None) store policy (collection_at facts (phase_of.AfterTurn o) (Some release)) store policy answer_of.Continue
@@ -286,20 +225,10 @@ module _ (store : Store) (o : ℕ) where
       let w : World = with_stack (Collecting (c (machine.Turn o)) ∷ below) v in
       let after : World = with_stack (Releasing (o ∷ []) ∷ Collecting (c (machine.AfterTurn o)) ∷ below) v in
       let last : last_entry (object_entries_of v.objects o) ≡ None = ap last_entry (ap (λ os. object_entries_of os o) (sym s.shows.represents.objects) ∙ entries-agree store o ∙ empty) in
-      record {
-        events = [];
-        after = after;
-        goes = in_one script w [] after s.running (λ i. (empties (c (machine.Turn o)) o below w (sym last i)).0, λ i. (empties (c (machine.Turn o)) o below w (sym last i)).1);
-        lines = refl;
-        shows = record {
-          represents = represents_giving_up store store v below (c (machine.Turn o)) (c (machine.AfterTurn o)) s.shows.represents s.alone (o ∷ []) v.objects s.shows.represents.objects
-              (with_same_rows store store refl refl refl) (pending_is store store v below (c (machine.Turn o)) (c (machine.AfterTurn o)) s.shows.represents s.alone) (λ q. omega arith);
-          numbers = s.shows.numbers;
-          running = s.shows.running;
-          top = λ i. Releasing (sym left i) ∷ Collecting (c (machine.AfterTurn o)) ∷ below;
-        };
-        keeps = record { budget = refl; outcome = refl };
-      })
+      went script w [] after s.running (λ i. (empties (c (machine.Turn o)) o below w (sym last i)).0, λ i. (empties (c (machine.Turn o)) o below w (sym last i)).1) refl
+      (represents_giving_up store store v below (c (machine.Turn o)) (c (machine.AfterTurn o)) s.shows.represents s.alone (o ∷ []) v.objects s.shows.represents.objects
+      (with_same_rows store store refl refl refl) (pending_is store store v below (c (machine.Turn o)) (c (machine.AfterTurn o)) s.shows.represents s.alone) (λ q. omega arith))
+      s.shows.numbers s.shows.running (λ i. Releasing (sym left i) ∷ Collecting (c (machine.AfterTurn o)) ∷ below) refl refl)
 
   -- the last is removed
   module _ (sound : (q : ℕ) → 0 < inner store q → IsLive store q) (e : Entry) (last : entries_of store o ≡ without_last (entries_of store o) ++ e ∷ []) where
@@ -327,25 +256,15 @@ module _ (store : Store) (o : ℕ) where
         let objects : List Object = change (object_entries (without_last (object_entries_of v.objects o))) o v.objects in
         let after : World = with_stack (Releasing (entry_references e) ∷ Collecting c ∷ below) (with_objects objects v) in
         let found : last_entry (object_entries_of v.objects o) ≡ Some e = ap last_entry (entries ∙ last) ∙ last_entry-append rest e in
-        record {
-          events = [];
-          after = after;
-          goes = in_one script w [] after s.running (λ i. (empties c o below w (sym found i)).0, λ i. (empties c o below w (sym found i)).1);
-          lines = refl;
-          shows = record {
-            represents = represents_giving_up store taken v below c c s.shows.represents s.alone (entry_references e) objects
-                (objects-same (rewritten o rest store) (λ s n. more (occurrences s (entry_references e)) n) (λ s n. refl)
-                ∙ objects-changed store o (with_entries rest) (object_entries rest) (λ s n. refl)
-                ∙ ap (change (object_entries rest) o) same
-                ∙ ap (λ es. change (object_entries (without_last es)) o v.objects) (sym entries))
-                (with_same_rows store taken refl refl refl) (pending_is store store v below c c s.shows.represents s.alone)
-                (λ q. omega (arith, outside-held (entry_references e) (rewritten o rest store) q (refs_live q), outside-rewritten o rest store q));
-            numbers = s.shows.numbers;
-            running = s.shows.running;
-            top = λ i. Releasing (sym left i) ∷ Collecting c ∷ below;
-          };
-          keeps = record { budget = refl; outcome = refl };
-        })
+        went script w [] after s.running (λ i. (empties c o below w (sym found i)).0, λ i. (empties c o below w (sym found i)).1) refl
+        (represents_giving_up store taken v below c c s.shows.represents s.alone (entry_references e) objects
+        (objects-same (rewritten o rest store) (λ s n. more (occurrences s (entry_references e)) n) (λ s n. refl)
+        ∙ objects-changed store o (with_entries rest) (object_entries rest) (λ s n. refl)
+        ∙ ap (change (object_entries rest) o) same
+        ∙ ap (λ es. change (object_entries (without_last es)) o v.objects) (sym entries))
+        (with_same_rows store taken refl refl refl) (pending_is store store v below c c s.shows.represents s.alone)
+        (λ q. omega (arith, outside-held (entry_references e) (rewritten o rest store) q (refs_live q), outside-rewritten o rest store q)))
+        s.shows.numbers s.shows.running (λ i. Releasing (sym left i) ∷ Collecting c ∷ below) refl refl)
 
 -- What each of them leaves. The one that has its turn may be anywhere.
 module _ (store : Store) (listed : IsListed store) (o : ℕ) (live : IsLive store o) (g : ℕ) where
@@ -470,12 +389,8 @@ code_is : (x : Option Node) (n : Node) (k : KindCode) → x ≡ Some n → IfSom
 code_is x n k e h = subst (λ y. IfSome y (λ (m : Node). k ≡ m.code)) e h
 
 not_tuple : (x : Object) (k : KindCode) → k ≢ Tuple → is_tuple (record x { code = k }) ≡ false
-not_tuple x ListKind other = refl
 not_tuple x Tuple other = absurd (other refl)
-not_tuple x Dict other = refl
-not_tuple x Inst other = refl
-not_tuple x Func other = refl
-not_tuple x Weak other = refl
+not_tuple x k other = refl
 
 module _ (store : Store) (o : ℕ) (live : IsLive store o) (at : place_of store o ≡ Cand) (script : Script) (facts : Facts) (policy : Policy) where
   pub tuple-turn : IfSome (fin.get store.nodes o) (λ n. Tuple ≡ n.code) → has_flag (bits_of facts.flags) save_all ≡ false

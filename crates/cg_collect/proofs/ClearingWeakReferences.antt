@@ -25,12 +25,11 @@ use Rattle.cg_heap.proofs.HoldLemmas.{outside-moved, outside-held}
 use Rattle.cg_heap.proofs.RowLemmas.{refers_live}
 use Rattle.cg_machine.specs.declared.event.Event.TheVariants.{Cleared}
 use Rattle.cg_machine.specs.World as machine
-use Rattle.cg_machine.specs.World.{World, Activity, Collecting, with_stack, with_objects}
+use Rattle.cg_machine.specs.World.{World, Collecting, with_stack, with_objects}
 use Rattle.cg_machine.specs.Weak.{loses_referent, callback_of, callback_in, MayLoseNext}
 use Rattle.cg_machine.specs.Program.{profile_of}
 use Rattle.cg_machine.specs.Collect.{waits, is_condemned_in, loses_in_weak_phase}
 use Rattle.cg_machine.specs.Collect as collect
-use Rattle.cg_represents.proofs.Representing.{in_one}
 use Rattle.cg_policy.specs.Policy.{Policy}
 use Rattle.cg_trial.proofs.Lists.{absent, without-absent}
 use Rattle.cg_trial.proofs.PlacesOfObjects.{where_is}
@@ -46,7 +45,7 @@ use Rattle.cg_collect.specs.Ready.{IsApartUnseen, HaveCallbacks, IsWalk, loses_a
 use Rattle.cg_collect.specs.Answers.{CollectSteps}
 use Rattle.cg_collect.specs.Turns.{collection_at}
 use Rattle.cg_collect.proofs.Moving.{moved_not, moved_last, moved_from}
-use Rattle.cg_collect.proofs.Worlds.{LeavesRest, steps_at, represents_on}
+use Rattle.cg_collect.proofs.Worlds.{LeavesRest, steps_at, represents_on, went}
 use Rattle.cg_collect.proofs.FinalizerPhase.{still_unsaved}
 use Rattle.cg_collect.proofs.Pending.{apart_away}
 use Rattle.cg_collect.proofs.RowWalks.{refers, older_ones, looks_here, looks_on}
@@ -174,27 +173,17 @@ module _ (profile : ℕ) (store : Store) (sound : IsSound store) (r : Row) (insi
         let after : World = with_stack (Collecting c ∷ below) (with_objects objects v) in
         let same : objects_of store ≡ v.objects = s.shows.represents.objects in
         let keeps : waits v.objects r.weak ≡ false = ap (λ (os : List Object). waits os r.weak) (sym same) ∙ never in
-        record {
-          events = Cleared r.weak ∷ [];
-          after = after;
-          goes = in_one script w (Cleared r.weak ∷ []) after s.running (inl (record {
-            weak = r.weak;
-            newest = newest_there w same;
-            yields = (
-              refl,
-              ap (λ b. if b then collect.collection_at c (machine.WeakClearing (pending ++ r.weak ∷ [])) below
-                  (with_objects (change (object_placed Pend) r.weak objects) w) else after) (sym keeps),
-            );
-          }));
-          lines = refl;
-          shows = record {
-            represents = represents_on store lost v below c c s.shows.represents s.alone objects (objects-lost ∙ ap (loses_referent r.weak) same) rest_lost refl (λ q. refl);
-            numbers = s.shows.numbers;
-            running = s.shows.running;
-            top = refl;
-          };
-          keeps = record { budget = refl; outcome = refl };
-        })
+        went script w (Cleared r.weak ∷ []) after s.running (inl (record {
+          weak = r.weak;
+          newest = newest_there w same;
+          yields = (
+            refl,
+            ap (λ b. if b then collect.collection_at c (machine.WeakClearing (pending ++ r.weak ∷ [])) below
+                (with_objects (change (object_placed Pend) r.weak objects) w) else after) (sym keeps),
+          );
+        })) refl
+        (represents_on store lost v below c c s.shows.represents s.alone objects (objects-lost ∙ ap (loses_referent r.weak) same) rest_lost refl (λ q. refl))
+        s.shows.numbers s.shows.running refl refl refl)
 
     -- it then waits
     pub turn-waits : waits (objects_of store) r.weak ≡ true
@@ -211,34 +200,24 @@ module _ (profile : ℕ) (store : Store) (sound : IsSound store) (r : Row) (insi
         let after : World = with_stack (Collecting (c (machine.WeakClearing (pending ++ r.weak ∷ []))) ∷ below) (with_objects objects v) in
         let same : objects_of store ≡ v.objects = s.shows.represents.objects in
         let begins : waits v.objects r.weak ≡ true = ap (λ (os : List Object). waits os r.weak) (sym same) ∙ always in
-        record {
-          events = Cleared r.weak ∷ [];
-          after = after;
-          goes = in_one script w (Cleared r.weak ∷ []) after s.running (inl (record {
-            weak = r.weak;
-            newest = newest_there w same;
-            yields = (
-              refl,
-              ap (λ b. if b then after else collect.collection_at (c (machine.WeakClearing pending)) (machine.WeakClearing pending) below
-                  (with_objects (loses_referent r.weak v.objects) w)) (sym begins),
-            );
-          }));
-          lines = refl;
-          shows = record {
-            represents = represents_on store put_by v below (c (machine.WeakClearing pending)) (c (machine.WeakClearing (pending ++ r.weak ∷ []))) s.shows.represents s.alone objects
-                (objects-put ∙ ap (λ (os : List Object). change (object_placed Pend) r.weak (loses_referent r.weak os)) same) rest_put pending-put
-                (λ q. omega (
-                  arith,
-                  outside-moved r.weak Pend held_now q,
-                  outside-held (r.weak ∷ []) lost q (λ h. subst (IsLive lost) (sym (only-one r.weak q h)) live),
-                  occurrences-append q pending (r.weak ∷ []),
-                ));
-            numbers = s.shows.numbers;
-            running = s.shows.running;
-            top = λ i. Collecting (c (machine.WeakClearing (sym pending-put i))) ∷ below;
-          };
-          keeps = record { budget = refl; outcome = refl };
-        })
+        went script w (Cleared r.weak ∷ []) after s.running (inl (record {
+          weak = r.weak;
+          newest = newest_there w same;
+          yields = (
+            refl,
+            ap (λ b. if b then after else collect.collection_at (c (machine.WeakClearing pending)) (machine.WeakClearing pending) below
+                (with_objects (loses_referent r.weak v.objects) w)) (sym begins),
+          );
+        })) refl
+        (represents_on store put_by v below (c (machine.WeakClearing pending)) (c (machine.WeakClearing (pending ++ r.weak ∷ []))) s.shows.represents s.alone objects
+        (objects-put ∙ ap (λ (os : List Object). change (object_placed Pend) r.weak (loses_referent r.weak os)) same) rest_put pending-put
+        (λ q. omega (
+          arith,
+          outside-moved r.weak Pend held_now q,
+          outside-held (r.weak ∷ []) lost q (λ h. subst (IsLive lost) (sym (only-one r.weak q h)) live),
+          occurrences-append q pending (r.weak ∷ []),
+        )))
+        s.shows.numbers s.shows.running (λ i. Collecting (c (machine.WeakClearing (sym pending-put i))) ∷ below) refl refl)
 
   -- the invariant of the walk afterwards
   pub is_lost : IsLost store lost r.weak

@@ -193,9 +193,7 @@ module _ (store : Store) (final : List ℕ) (wanted : Object → Bool)
         bools : (a b c d : Bool) → not ((d || c) && b) ≡ true → not ((a && b) && c) ≡ true
         bools true true true true h = h
         bools true true true false h = h
-        bools true true false d h = refl
-        bools true false c d h = refl
-        bools false b c d h = refl
+        bools a b c d h = refl
 
     lose_same : (more : List Row → List ℕ) → Lose left (more left) (lost_rows left) → Lose rows (among rows (Some t) ++ more (without_rows (among rows (Some t)) rows)) (lost_rows rows)
     lose_same more others =

@@ -6,7 +6,7 @@ use Rattle.std.proofs.lemmas.Bool.{ne_eqb}
 use Rattle.std.proofs.lemmas.List.{get_or-set_same, get_or-set_other, length-set}
 use Rattle.cg_value.specs.declared.Entry.{Entry}
 use Rattle.cg_value.specs.declared.Place.{Place}
-use Rattle.cg_value.specs.declared.Place.TheVariants.{Untracked, Gen, Frozen, Cand, Seen, Back, Legacy, Pend}
+use Rattle.cg_value.specs.declared.Place.TheVariants.{Gen, Cand, Seen, Back, Legacy, Pend}
 use Rattle.cg_script.specs.declared.Script.{Script}
 use Rattle.cg_graph.specs.Member.{Includes}
 use Rattle.cg_graph.specs.Value.{references}
@@ -25,7 +25,7 @@ use Rattle.cg_heap.proofs.HoldLemmas.{outside-moved, outside-with_node, outside-
 use Rattle.cg_machine.specs.declared.event.FrameSort.TheVariants.{Del}
 use Rattle.cg_machine.specs.declared.event.FrameSpec.{FrameSpec}
 use Rattle.cg_machine.specs.World as machine
-use Rattle.cg_machine.specs.World.{World, Activity, Releasing, Collecting, with_stack, with_objects}
+use Rattle.cg_machine.specs.World.{World, Releasing, Collecting, with_stack, with_objects}
 use Rattle.cg_machine.specs.Frame.{start_frame}
 use Rattle.cg_machine.specs.Dying.{finalizer_to_run}
 use Rattle.cg_machine.specs.Collect.{IsMemberOf, looks_at}
@@ -48,7 +48,7 @@ use Rattle.cg_collect.specs.Turns.{collection_at}
 use Rattle.cg_collect.proofs.PlacesOfObjects.{stands_at, list_length, entries_on}
 use Rattle.cg_collect.proofs.Moving.{one-shorter, moved_same, moved_last, moved_from}
 use Rattle.cg_collect.proofs.Garbage.{garbage-moved, garbage-merged}
-use Rattle.cg_collect.proofs.Worlds.{steps_at, with_same_rows, pending_is, represents_on, represents_giving_up}
+use Rattle.cg_collect.proofs.Worlds.{steps_at, with_same_rows, pending_is, represents_on, represents_giving_up, went}
 
 -- the garbage list names none of a place, if its names stay
 pub still_unsaved : (old new : Store) (p : Place) → entries_of new 1 ≡ entries_of old 1 → ((q : ℕ) → Includes (list_at new p) q → ¬ Includes (references (entries_of old 1)) q) → IsUnsaved new p
@@ -56,14 +56,8 @@ still_unsaved old new p same unsaved q m saved = unsaved q m (subst (λ (es : Li
 
 -- the place of visited objects, by its number
 seen_number : (p : Place) → (place_number p == 3) ≡ same_place p Seen
-seen_number Untracked = refl
 seen_number (Gen i) = ne_eqb (7 + i) 3 (λ e. absurd (omega (arith, e)))
-seen_number Frozen = refl
-seen_number Cand = refl
-seen_number Seen = refl
-seen_number Back = refl
-seen_number Legacy = refl
-seen_number Pend = refl
+seen_number p = refl
 
 -- a place with an empty list has no object
 pub nobody_stands : (store : Store) → IsListed store → (p : Place) → list_at store p ≡ [] → serials_at (objects_of store) p ≡ []
@@ -83,20 +77,10 @@ module _ (script : Script) (facts : Facts) (store : Store) (policy : Policy) whe
       let c : machine.CollectPhase → machine.Collection = collection_of asked (collection_at facts phase_of.Finalizing None) in
       let w : World = with_stack (Collecting (c (machine.AfterFinalizing o)) ∷ below) v in
       let after : World = with_stack (Releasing (o ∷ []) ∷ Collecting (c machine.Finalizing) ∷ below) v in
-      record {
-        events = [];
-        after = after;
-        goes = in_one script w [] after s.running (refl, refl);
-        lines = refl;
-        shows = record {
-          represents = represents_giving_up store store v below (c (machine.AfterFinalizing o)) (c machine.Finalizing) s.shows.represents s.alone (o ∷ []) v.objects s.shows.represents.objects
-              (with_same_rows store store refl refl refl) (s.shows.represents.collection (c (machine.AfterFinalizing o)) (inl refl)) (λ q. omega arith);
-          numbers = s.shows.numbers;
-          running = s.shows.running;
-          top = λ i. Releasing (sym left i) ∷ Collecting (c machine.Finalizing) ∷ below;
-        };
-        keeps = record { budget = refl; outcome = refl };
-      })
+      went script w [] after s.running (refl, refl) refl
+      (represents_giving_up store store v below (c (machine.AfterFinalizing o)) (c machine.Finalizing) s.shows.represents s.alone (o ∷ []) v.objects s.shows.represents.objects
+      (with_same_rows store store refl refl refl) (s.shows.represents.collection (c (machine.AfterFinalizing o)) (inl refl)) (λ q. omega arith))
+      s.shows.numbers s.shows.running (λ i. Releasing (sym left i) ∷ Collecting (c machine.Finalizing) ∷ below) refl refl)
 
 -- A condemned object moves to the visited ones.
 module _ (store : Store) (listed : IsListed store) (o : ℕ) (first : slice_get (list_at store Cand) 0 ≡ Some o) where
@@ -127,24 +111,14 @@ module _ (store : Store) (listed : IsListed store) (o : ℕ) (first : slice_get 
       let after : World = with_stack (Collecting c ∷ below) (with_objects objects v) in
       let same : objects_of store ≡ v.objects = s.shows.represents.objects in
       let none : option_and_then (finalizer_to_run script) (object_at v.objects o) ≡ None = ap (λ (os : List Object). option_and_then (finalizer_to_run script) (object_at os o)) (sym same) ∙ due in
-      record {
-        events = [];
-        after = after;
-        goes = in_one script w [] after s.running (inl (record {
-          object = o;
-          condemned = is_member w same;
-          yields = (λ i. (looks_at script c o below w (sym none i)).0, λ i. (looks_at script c o below w (sym none i)).1);
-        }));
-        lines = refl;
-        shows = record {
-          represents = represents_on store looked v below c c s.shows.represents s.alone objects (objects-looked ∙ ap (change (object_placed Seen) o) same)
-              (with_same_rows store looked refl refl refl) (none_pending (pending_is store store v below c c s.shows.represents s.alone)) (λ q. omega (arith, outside-moved o Seen store q));
-          numbers = s.shows.numbers;
-          running = s.shows.running;
-          top = refl;
-        };
-        keeps = record { budget = refl; outcome = refl };
-      })
+      went script w [] after s.running (inl (record {
+        object = o;
+        condemned = is_member w same;
+        yields = (λ i. (looks_at script c o below w (sym none i)).0, λ i. (looks_at script c o below w (sym none i)).1);
+      })) refl
+      (represents_on store looked v below c c s.shows.represents s.alone objects (objects-looked ∙ ap (change (object_placed Seen) o) same)
+      (with_same_rows store looked refl refl refl) (none_pending (pending_is store store v below c c s.shows.represents s.alone)) (λ q. omega (arith, outside-moved o Seen store q)))
+      s.shows.numbers s.shows.running refl refl refl)
 
   abbrev ready : Store
   ready = with_node marked o looked
@@ -269,27 +243,17 @@ module _ (store : Store) (listed : IsListed store) (none : slice_get (list_at st
       let objects : List Object = map (λ x. if is_at Seen x then object_placed Cand x else x) v.objects in
       let after : World = with_stack (Collecting (c machine.Split) ∷ below) (with_objects objects v) in
       let same : objects_of store ≡ v.objects = s.shows.represents.objects in
-      record {
-        events = [];
-        after = after;
-        goes = in_one script w [] after s.running (inr (
-          ap (λ (os : List Object). serials_at os Cand) (sym same) ∙ nobody_stands store listed Cand
-              (none_first (list_at store Cand) none),
-          (refl, refl),
-        ));
-        lines = refl;
-        shows = record {
-          represents = represents_on store condemned_again v below (c machine.Finalizing) (c machine.Split) s.shows.represents s.alone objects
-              (objects-again ∙ ap (map (λ x. if is_at Seen x then object_placed Cand x else x)) same)
-              (with_same_rows store condemned_again refl refl refl)
-              (kept 6 (λ e. absurd (omega (arith, e))) (λ e. absurd (omega (arith, e))) ∙ pending_is store store v below (c machine.Finalizing) (c machine.Finalizing) s.shows.represents s.alone)
-              (λ q. omega (arith, outside-again q));
-          numbers = s.shows.numbers;
-          running = s.shows.running;
-          top = refl;
-        };
-        keeps = record { budget = refl; outcome = refl };
-      })
+      went script w [] after s.running (inr (
+        ap (λ (os : List Object). serials_at os Cand) (sym same) ∙ nobody_stands store listed Cand
+            (none_first (list_at store Cand) none),
+        (refl, refl),
+      )) refl
+      (represents_on store condemned_again v below (c machine.Finalizing) (c machine.Split) s.shows.represents s.alone objects
+      (objects-again ∙ ap (map (λ x. if is_at Seen x then object_placed Cand x else x)) same)
+      (with_same_rows store condemned_again refl refl refl)
+      (kept 6 (λ e. absurd (omega (arith, e))) (λ e. absurd (omega (arith, e))) ∙ pending_is store store v below (c machine.Finalizing) (c machine.Finalizing) s.shows.represents s.alone)
+      (λ q. omega (arith, outside-again q)))
+      s.shows.numbers s.shows.running refl refl refl)
     where
       outside-again : (q : ℕ) → outside_of condemned_again q ≡ outside_of store q
       outside-again q = ap outside_in (get-mapped (λ s n. place_merged Seen Cand n) store.nodes q) ∙ known (fin.get store.nodes q)

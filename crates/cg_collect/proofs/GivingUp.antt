@@ -14,7 +14,7 @@ use Rattle.cg_graph.proofs.Maps.{get-mapped}
 use Rattle.cg_heap.proofs.CallerLemmas.{kinds-unheld}
 use Rattle.cg_machine.specs.Program.{profile_of}
 use Rattle.cg_machine.specs.World as machine
-use Rattle.cg_machine.specs.World.{World, Activity, Releasing, Collecting, Numbers}
+use Rattle.cg_machine.specs.World.{World, Activity, Releasing, Numbers}
 use Rattle.cg_machine.specs.Weak.{callback_in}
 use Rattle.cg_represents.specs.Represents.{Represents}
 use Rattle.cg_policy.specs.Policy.{Policy}
@@ -43,11 +43,18 @@ use Rattle.cg_collect.proofs.FinalizerPhase.{still_unsaved}
 -- A release that neither died nor ended went on.
 pub goes_on_with : (c : Collection) (release : Release) (answer : DeathStep) → ((o : ℕ) → answer ≡ death_answer.Died o → ⊥) → (answer ≡ death_answer.Gone → ⊥)
     → (record c { release = Some release } ≡ once_given_up c release answer) × (answer_of.Continue ≡ give_up_answer answer)
-goes_on_with c release death_answer.Continue died gone = (refl, refl)
-goes_on_with c release (death_answer.Emit event) died gone = (refl, refl)
-goes_on_with c release (death_answer.Frame spec) died gone = (refl, refl)
 goes_on_with c release (death_answer.Died o) died gone = absurd (died o refl)
 goes_on_with c release death_answer.Gone died gone = absurd (gone refl)
+goes_on_with c release answer died gone = (refl, refl)
+
+-- What holds in each phase that gives something up holds where something may be given up.
+pub in_each : (P : Phase → Type 0) → ((weak : ℕ) → P (phase_of.AfterRelease weak)) → P phase_of.Finalizing → ((o : ℕ) → P (phase_of.Turn o)) → ((o : ℕ) → P (phase_of.AfterTurn o))
+    → (p : Phase) → MayGiveUp p → P p
+in_each P released finalizing turn turned (phase_of.AfterRelease weak) may = released weak
+in_each P released finalizing turn turned phase_of.Finalizing may = finalizing
+in_each P released finalizing turn turned (phase_of.Turn o) may = turn o
+in_each P released finalizing turn turned (phase_of.AfterTurn o) may = turned o
+in_each P released finalizing turn turned p may = absurd may
 
 -- A phase that gives something up: no line is left, and it is on the machine's stack.
 record GivesUpAt (p : Phase) : Type 0 where
@@ -58,33 +65,17 @@ record GivesUpAt (p : Phase) : Type 0 where
   stands : (pending : List ℕ) → machine_phase p pending ≡ Some (phase pending)
 
 gives_up_at : (p : Phase) → MayGiveUp p → GivesUpAt p
-gives_up_at (phase_of.AfterRelease weak) may = record {
-  lines = λ script asked c store. refl;
-  heap = λ store. refl;
-  numbers = λ g n. refl;
-  phase = λ pending. machine.AfterRelease weak (filter (λ q. not (q == weak)) pending);
-  stands = λ pending. refl;
-}
-gives_up_at phase_of.Finalizing may = record { lines = λ script asked c store. refl; heap = λ store. refl; numbers = λ g n. refl; phase = λ pending. machine.Finalizing; stands = λ pending. refl }
-gives_up_at (phase_of.Turn o) may = record { lines = λ script asked c store. refl; heap = λ store. refl; numbers = λ g n. refl; phase = λ pending. machine.Turn o; stands = λ pending. refl }
-gives_up_at (phase_of.AfterTurn o) may = record { lines = λ script asked c store. refl; heap = λ store. refl; numbers = λ g n. refl; phase = λ pending. machine.AfterTurn o; stands = λ pending. refl }
-gives_up_at phase_of.Start may = absurd may
-gives_up_at (phase_of.Sizes zero one two frozen) may = absurd may
-gives_up_at (phase_of.Telling next) may = absurd may
-gives_up_at (phase_of.WeakClearing member weak) may = absurd may
-gives_up_at phase_of.WeakCalling may = absurd may
-gives_up_at (phase_of.AfterCallback weak) may = absurd may
-gives_up_at (phase_of.AfterFinalizing o) may = absurd may
-gives_up_at phase_of.Split may = absurd may
-gives_up_at (phase_of.Living next) may = absurd may
-gives_up_at (phase_of.Detaching next) may = absurd may
-gives_up_at (phase_of.Unlinking member weak) may = absurd may
-gives_up_at phase_of.Turns may = absurd may
-gives_up_at phase_of.Ending may = absurd may
-gives_up_at (phase_of.Uncollectable first next number) may = absurd may
-gives_up_at (phase_of.Saved next number) may = absurd may
-gives_up_at (phase_of.Stopping number) may = absurd may
-gives_up_at (phase_of.Over number) may = absurd may
+gives_up_at = in_each GivesUpAt
+    (λ weak. record {
+      lines = λ script asked c store. refl;
+      heap = λ store. refl;
+      numbers = λ g n. refl;
+      phase = λ pending. machine.AfterRelease weak (filter (λ q. not (q == weak)) pending);
+      stands = λ pending. refl;
+    })
+    (record { lines = λ script asked c store. refl; heap = λ store. refl; numbers = λ g n. refl; phase = λ pending. machine.Finalizing; stands = λ pending. refl })
+    (λ o. record { lines = λ script asked c store. refl; heap = λ store. refl; numbers = λ g n. refl; phase = λ pending. machine.Turn o; stands = λ pending. refl })
+    (λ o. record { lines = λ script asked c store. refl; heap = λ store. refl; numbers = λ g n. refl; phase = λ pending. machine.AfterTurn o; stands = λ pending. refl })
 
 -- A release leaves the lists, the entries, the places and the kinds of a heap alone.
 lists-released : (refs : List ℕ) (store : Store) → (once_released refs store).lists ≡ store.lists
@@ -124,8 +115,6 @@ module _ (script : Script) (asked : Bool) (c : Collection) (store now : Store) (
     shows = shows_at (Some after) r.goes.after r.goes.represents r.keeps.numbers r.goes.top;
     keeps = record { budget = r.keeps.budget; outcome = r.keeps.outcome };
   }
-  answered (death_answer.Emit event) r = absurd r
-  answered (death_answer.Frame spec) r = absurd r
   answered (death_answer.Died o) r = (
     at.lines script asked c store,
     at.lines script asked (record c { release = Some after }) now,
@@ -144,6 +133,7 @@ module _ (script : Script) (asked : Bool) (c : Collection) (store now : Store) (
     shows = shows_at None r.goes.after r.goes.represents r.keeps.numbers r.goes.top;
     keeps = record { budget = r.keeps.budget; outcome = r.keeps.outcome };
   }
+  answered a r = absurd r
 
 may_give_up : (p : Phase) (r : Option Release) (release : Release) → r ≡ Some release → GivesUpIn p r → MayGiveUp p
 may_give_up p r release is may = subst (GivesUpIn p) is may
@@ -205,51 +195,12 @@ module _ (refs : List ℕ) (store : Store) where
 
   -- the phases that give something up are still ready
   ready-unheld : (g : ℕ) (p : Phase) → MayGiveUp p → IsReadyForCollectionAt store g p → IsReadyForCollectionAt let_off g p
-  ready-unheld g (phase_of.AfterRelease weak) may r = ((apart-unheld r.0.0, r.0.1), others-unheld weak r.1, r.2)
-  ready-unheld g phase_of.Finalizing may r = apart-unheld r
-  ready-unheld g (phase_of.Turn o) may r = ((apart-unheld r.0.0, r.0.1), r.1)
-  ready-unheld g (phase_of.AfterTurn o) may r = ((apart-unheld r.0.0, r.0.1), r.1)
-  ready-unheld g phase_of.Start may r = absurd may
-  ready-unheld g (phase_of.Sizes zero one two frozen) may r = absurd may
-  ready-unheld g (phase_of.Telling next) may r = absurd may
-  ready-unheld g (phase_of.WeakClearing member weak) may r = absurd may
-  ready-unheld g phase_of.WeakCalling may r = absurd may
-  ready-unheld g (phase_of.AfterCallback weak) may r = absurd may
-  ready-unheld g (phase_of.AfterFinalizing o) may r = absurd may
-  ready-unheld g phase_of.Split may r = absurd may
-  ready-unheld g (phase_of.Living next) may r = absurd may
-  ready-unheld g (phase_of.Detaching next) may r = absurd may
-  ready-unheld g (phase_of.Unlinking member weak) may r = absurd may
-  ready-unheld g phase_of.Turns may r = absurd may
-  ready-unheld g phase_of.Ending may r = absurd may
-  ready-unheld g (phase_of.Uncollectable first next number) may r = absurd may
-  ready-unheld g (phase_of.Saved next number) may r = absurd may
-  ready-unheld g (phase_of.Stopping number) may r = absurd may
-  ready-unheld g (phase_of.Over number) may r = absurd may
+  ready-unheld g = in_each (λ p. IsReadyForCollectionAt store g p → IsReadyForCollectionAt let_off g p)
+      (λ weak r. ((apart-unheld r.0.0, r.0.1), others-unheld weak r.1, r.2)) (λ r. apart-unheld r) (λ o r. ((apart-unheld r.0.0, r.0.1), r.1)) (λ o r. ((apart-unheld r.0.0, r.0.1), r.1))
 
   -- as few are collected
   few-unheld : (n : ℕ) (p : Phase) → MayGiveUp p → HasFewCollected n p store → HasFewCollected n p let_off
-  few-unheld n (phase_of.AfterRelease weak) may few = few
-  few-unheld n phase_of.Finalizing may few = few
-  few-unheld n (phase_of.Turn o) may few = few
-  few-unheld n (phase_of.AfterTurn o) may few = few
-  few-unheld n phase_of.Start may few = absurd may
-  few-unheld n (phase_of.Sizes zero one two frozen) may few = absurd may
-  few-unheld n (phase_of.Telling next) may few = absurd may
-  few-unheld n (phase_of.WeakClearing member weak) may few = absurd may
-  few-unheld n phase_of.WeakCalling may few = absurd may
-  few-unheld n (phase_of.AfterCallback weak) may few = absurd may
-  few-unheld n (phase_of.AfterFinalizing o) may few = absurd may
-  few-unheld n phase_of.Split may few = absurd may
-  few-unheld n (phase_of.Living next) may few = absurd may
-  few-unheld n (phase_of.Detaching next) may few = absurd may
-  few-unheld n (phase_of.Unlinking member weak) may few = absurd may
-  few-unheld n phase_of.Turns may few = absurd may
-  few-unheld n phase_of.Ending may few = absurd may
-  few-unheld n (phase_of.Uncollectable first next number) may few = absurd may
-  few-unheld n (phase_of.Saved next number) may few = absurd may
-  few-unheld n (phase_of.Stopping number) may few = absurd may
-  few-unheld n (phase_of.Over number) may few = absurd may
+  few-unheld n = in_each (λ p. HasFewCollected n p store → HasFewCollected n p let_off) (λ weak few. few) (λ few. few) (λ o few. few) (λ o few. few)
 
   to_clear-unheld : (o : ℕ) → to_clear let_off o ≡ to_clear store o
   to_clear-unheld o = ap (λ (es : List Entry). 16 + 4 * length es) (entries_of-unheld o)
@@ -259,27 +210,8 @@ module _ (refs : List ℕ) (store : Store) where
 
   -- and as much is left in the pass
   left-unheld : (p : Phase) → MayGiveUp p → left_in_pass p let_off ≡ left_in_pass p store
-  left-unheld (phase_of.AfterRelease weak) may = refl
-  left-unheld phase_of.Finalizing may = refl
-  left-unheld (phase_of.Turn o) may = λ i. others_cleared-unheld o i + to_clear-unheld o i + 8
-  left-unheld (phase_of.AfterTurn o) may = ap (λ n. n + 10) (others_cleared-unheld o)
-  left-unheld phase_of.Start may = absurd may
-  left-unheld (phase_of.Sizes zero one two frozen) may = absurd may
-  left-unheld (phase_of.Telling next) may = absurd may
-  left-unheld (phase_of.WeakClearing member weak) may = absurd may
-  left-unheld phase_of.WeakCalling may = absurd may
-  left-unheld (phase_of.AfterCallback weak) may = absurd may
-  left-unheld (phase_of.AfterFinalizing o) may = absurd may
-  left-unheld phase_of.Split may = absurd may
-  left-unheld (phase_of.Living next) may = absurd may
-  left-unheld (phase_of.Detaching next) may = absurd may
-  left-unheld (phase_of.Unlinking member weak) may = absurd may
-  left-unheld phase_of.Turns may = absurd may
-  left-unheld phase_of.Ending may = absurd may
-  left-unheld (phase_of.Uncollectable first next number) may = absurd may
-  left-unheld (phase_of.Saved next number) may = absurd may
-  left-unheld (phase_of.Stopping number) may = absurd may
-  left-unheld (phase_of.Over number) may = absurd may
+  left-unheld = in_each (λ p. left_in_pass p let_off ≡ left_in_pass p store)
+      (λ weak. refl) refl (λ o i. others_cleared-unheld o i + to_clear-unheld o i + 8) (λ o. ap (λ n. n + 10) (others_cleared-unheld o))
 
 -- What lasts in a phase that gives something up: deaths run in it, it comes after the start, and it spares the garbage list.
 record Lasts (p : Phase) : Type 0 where
@@ -291,27 +223,11 @@ record Lasts (p : Phase) : Type 0 where
   walk : (profile : ℕ) (store : Store) → HasItsWalk profile store p
 
 lasts_at : (p : Phase) → MayGiveUp p → Lasts p
-lasts_at (phase_of.AfterRelease weak) may = record { runs = tt; begun = tt; onward = refl; meets = refl; spares = λ store g r. r.2; walk = λ profile store. tt }
-lasts_at phase_of.Finalizing may = record { runs = tt; begun = tt; onward = refl; meets = refl; spares = λ store g r. tt; walk = λ profile store. tt }
-lasts_at (phase_of.Turn o) may = record { runs = tt; begun = tt; onward = refl; meets = refl; spares = λ store g r. r.1; walk = λ profile store. tt }
-lasts_at (phase_of.AfterTurn o) may = record { runs = tt; begun = tt; onward = refl; meets = refl; spares = λ store g r. r.1; walk = λ profile store. tt }
-lasts_at phase_of.Start may = absurd may
-lasts_at (phase_of.Sizes zero one two frozen) may = absurd may
-lasts_at (phase_of.Telling next) may = absurd may
-lasts_at (phase_of.WeakClearing member weak) may = absurd may
-lasts_at phase_of.WeakCalling may = absurd may
-lasts_at (phase_of.AfterCallback weak) may = absurd may
-lasts_at (phase_of.AfterFinalizing o) may = absurd may
-lasts_at phase_of.Split may = absurd may
-lasts_at (phase_of.Living next) may = absurd may
-lasts_at (phase_of.Detaching next) may = absurd may
-lasts_at (phase_of.Unlinking member weak) may = absurd may
-lasts_at phase_of.Turns may = absurd may
-lasts_at phase_of.Ending may = absurd may
-lasts_at (phase_of.Uncollectable first next number) may = absurd may
-lasts_at (phase_of.Saved next number) may = absurd may
-lasts_at (phase_of.Stopping number) may = absurd may
-lasts_at (phase_of.Over number) may = absurd may
+lasts_at = in_each Lasts
+    (λ weak. record { runs = tt; begun = tt; onward = refl; meets = refl; spares = λ store g r. r.2; walk = λ profile store. tt })
+    (record { runs = tt; begun = tt; onward = refl; meets = refl; spares = λ store g r. tt; walk = λ profile store. tt })
+    (λ o. record { runs = tt; begun = tt; onward = refl; meets = refl; spares = λ store g r. r.1; walk = λ profile store. tt })
+    (λ o. record { runs = tt; begun = tt; onward = refl; meets = refl; spares = λ store g r. r.1; walk = λ profile store. tt })
 
 record Unchanged (store now : Store) (p : Phase) : Type 0 where
   ready : (g : ℕ) → IsReadyForCollectionAt store g p → IsReadyForCollectionAt now g p
@@ -325,6 +241,15 @@ unchanged (o ∷ refs) store now p may is = subst (λ n. Unchanged store n p) (s
   few = λ n few. few-unheld (o ∷ []) store n p may few;
   left = left-unheld (o ∷ []) store p may;
 })
+
+-- A release goes on, hands out an object that died, or is done: no other answer has to be told of.
+in_release : (P : DeathStep → Type 0) → P death_answer.Continue → ((o : ℕ) → P (death_answer.Died o)) → P death_answer.Gone → (refs : List ℕ) (now : Store) → P (release_answer refs now)
+in_release P more died gone [] now = gone
+in_release P more died gone (o ∷ refs) now = choice (count_of now o == 0)
+  where
+    choice : (b : Bool) → P (if b then death_answer.Died o else death_answer.Continue)
+    choice true = died o
+    choice false = more
 
 -- a release that goes on had a reference
 gave_one : (refs rest : List ℕ) (now : Store) → release_answer refs now ≡ death_answer.Continue → rest ≡ drop 1 refs → length rest < length refs
@@ -342,34 +267,8 @@ module _ (c : Collection) (store : Store) (new : Collection) (now : Store) (answ
   gives_up-ready : (script : Script) → IsReadyForCollection script c store → KeepsReady script new now answer
   gives_up-ready script ready = subst (λ (n : Collection). KeepsReady script n now answer) (sym g.collection)
       (subst (KeepsReady script (once_given_up c g.after (release_answer (references_left g.before) now)) now) (sym g.told)
-      (known (release_answer (references_left g.before) now)))
-    where
-      known : (a : DeathStep) → KeepsReady script (once_given_up c g.after a) now (give_up_answer a)
-      known death_answer.Continue = record {
-        generation = ready.generation;
-        phase = same.ready c.generation ready.phase;
-        walk = (lasts_at c.phase may).walk
-            (profile_of script.items) now;
-        collected = same.few c.collected ready.collected;
-        gives_up = may;
-      }
-      known (death_answer.Emit event) = record {
-        generation = ready.generation;
-        phase = same.ready c.generation ready.phase;
-        walk = (lasts_at c.phase may).walk
-            (profile_of script.items) now;
-        collected = same.few c.collected ready.collected;
-        gives_up = may;
-      }
-      known (death_answer.Frame spec) = record {
-        generation = ready.generation;
-        phase = same.ready c.generation ready.phase;
-        walk = (lasts_at c.phase may).walk
-            (profile_of script.items) now;
-        collected = same.few c.collected ready.collected;
-        gives_up = may;
-      }
-      known (death_answer.Died o) = (
+      (in_release (λ a. KeepsReady script (once_given_up c g.after a) now (give_up_answer a)) (ready_then (Some g.after) may)
+      (λ o. (
         record {
           runs = (lasts_at c.phase may).runs;
           generation = ready.generation;
@@ -378,58 +277,35 @@ module _ (c : Collection) (store : Store) (new : Collection) (now : Store) (answ
           spares = (lasts_at c.phase may).spares store c.generation ready.phase;
         },
         refl,
-      )
-      known death_answer.Gone = record {
+      ))
+      (ready_then None tt) (references_left g.before) now))
+    where
+      ready_then : (r : Option Release) → GivesUpIn c.phase r → IsReadyForCollection script (record c { release = r }) now
+      ready_then r gives_then = record {
         generation = ready.generation;
         phase = same.ready c.generation ready.phase;
-        walk = (lasts_at c.phase may).walk
-            (profile_of script.items) now;
+        walk = (lasts_at c.phase may).walk (profile_of script.items) now;
         collected = same.few c.collected ready.collected;
-        gives_up = tt;
+        gives_up = gives_then;
       }
 
   -- generation, phase and the last pass stay
   gives_up-stays : (new.generation ≡ c.generation) × (new.phase ≡ c.phase) × (new.detected ≡ c.detected)
   gives_up-stays = subst (λ (n : Collection). (n.generation ≡ c.generation) × (n.phase ≡ c.phase) × (n.detected ≡ c.detected)) (sym g.collection)
-      (known (release_answer (references_left g.before) now))
-    where
-      known : (a : DeathStep) → ((once_given_up c g.after a).generation ≡ c.generation) × ((once_given_up c g.after a).phase ≡ c.phase) × ((once_given_up c g.after a).detected ≡ c.detected)
-      known death_answer.Continue = (refl, refl, refl)
-      known (death_answer.Emit event) = (refl, refl, refl)
-      known (death_answer.Frame spec) = (refl, refl, refl)
-      known (death_answer.Died o) = (refl, refl, refl)
-      known death_answer.Gone = (refl, refl, refl)
+      (in_release (λ a. ((once_given_up c g.after a).generation ≡ c.generation) × ((once_given_up c g.after a).phase ≡ c.phase) × ((once_given_up c g.after a).detected ≡ c.detected))
+      (refl, refl, refl) (λ o. (refl, refl, refl)) (refl, refl, refl) (references_left g.before) now)
 
   gives_up-falls : answer ≡ answer_of.Continue → CollectFalls c store new now
   gives_up-falls went =
       subst (λ (n : Collection). CollectFalls c store n now) (sym g.collection)
       (subst (λ (r : Option Release). ComesNearer store c.phase r now (once_given_up c g.after (release_answer (references_left g.before) now)).phase
       (once_given_up c g.after (release_answer (references_left g.before) now)).release) (sym g.had)
-      (known (release_answer (references_left g.before) now) refl (sym g.told ∙ went)))
-    where
-      known : (a : DeathStep) → release_answer (references_left g.before) now ≡ a → give_up_answer a ≡ answer_of.Continue
-          → ComesNearer store c.phase (Some g.before) now (once_given_up c g.after a).phase (once_given_up c g.after a).release
-      known death_answer.Continue is e = inr (refl, omega (arith, same.left, gave_one (references_left g.before) (references_left g.after) now is g.rest))
-      known (death_answer.Emit event) is e = absurd (never (references_left g.before) is)
-        where
-          never : (refs : List ℕ) → release_answer refs now ≡ death_answer.Emit event → ⊥
-          never [] h = cc
-          never (o ∷ refs) h = choice (count_of now o == 0) h
-            where
-              choice : (b : Bool) → (if b then death_answer.Died o else death_answer.Continue) ≡ death_answer.Emit event → ⊥
-              choice true k = cc
-              choice false k = cc
-      known (death_answer.Frame spec) is e = absurd (never (references_left g.before) is)
-        where
-          never : (refs : List ℕ) → release_answer refs now ≡ death_answer.Frame spec → ⊥
-          never [] h = cc
-          never (o ∷ refs) h = choice (count_of now o == 0) h
-            where
-              choice : (b : Bool) → (if b then death_answer.Died o else death_answer.Continue) ≡ death_answer.Frame spec → ⊥
-              choice true k = cc
-              choice false k = cc
-      known (death_answer.Died o) is e = absurd (cc)
-      known death_answer.Gone is e = inr (refl, omega (arith, same.left))
+      (in_release (λ a. release_answer (references_left g.before) now ≡ a → give_up_answer a ≡ answer_of.Continue
+      → ComesNearer store c.phase (Some g.before) now (once_given_up c g.after a).phase (once_given_up c g.after a).release)
+      (λ is e. inr (refl, omega (arith, same.left, gave_one (references_left g.before) (references_left g.after) now is g.rest)))
+      (λ o is e. absurd (cc))
+      (λ is e. inr (refl, omega (arith, same.left)))
+      (references_left g.before) now refl (sym g.told ∙ went)))
 
   -- a step that gives something up does not end the collection
   goes_on : (a : DeathStep) → CollectionEndsWith c (give_up_answer a)

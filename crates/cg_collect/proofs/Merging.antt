@@ -1,5 +1,5 @@
 -- A generation is merged into another.
-use Rattle.std.proofs.Common.{◌≡◌, ◌≢◌, refl, sym, ◌∙◌, ap, subst, ℕ, ◌+◌, ◌<◌, ◌≤◌, inl, inr, Bool, true, false, Option, Some, None, arith}
+use Rattle.std.proofs.Common.{◌≡◌, ◌≢◌, refl, sym, ◌∙◌, ap, subst, ℕ, ◌+◌, ◌<◌, inl, inr, Bool, true, false, Option, Some, None, arith}
 use Rattle.std.specs.Prelude.{◌==◌, if◌then◌else◌, option_map, nat_le}
 use Rattle.std.specs.FinMap as fin
 use Rattle.std.proofs.lemmas.Bool.{cases_eq, eq-eqb, ne_eqb}
@@ -14,7 +14,7 @@ use Rattle.cg_machine.specs.Collect.{merged_place, older}
 use Rattle.cg_heap.specs.Calls.{merged, place_merged}
 use Rattle.cg_trial.specs.Split.{IsSameButPlaces, IsSameNode}
 use Rattle.cg_collect.specs.Starting.{MergesYounger, GetOlder}
-use Rattle.cg_collect.proofs.PlacesOfObjects.{same_itself, same_more}
+use Rattle.cg_collect.proofs.PlacesOfObjects.{same_more}
 
 -- where an object is after a generation moved to another
 abbrev went_to : ℕ → ℕ → Place → Place
@@ -68,25 +68,9 @@ module _ (i j : ℕ) (store : Store) where
       known None = tt
       known (Some n) = go (place_number n.place == 7 + i) n
 
-zero_merges : (p : Place) → p ≡ merged_place 0 p
-zero_merges (Gen k) = grind (arith, nat_tests)
-zero_merges Untracked = refl
-zero_merges Frozen = refl
-zero_merges Cand = refl
-zero_merges Seen = refl
-zero_merges Back = refl
-zero_merges Legacy = refl
-zero_merges Pend = refl
-
 one_merges : (p : Place) → went_to 0 1 p ≡ merged_place 1 p
 one_merges (Gen k) = grind (arith, nat_tests)
-one_merges Untracked = refl
-one_merges Frozen = refl
-one_merges Cand = refl
-one_merges Seen = refl
-one_merges Back = refl
-one_merges Legacy = refl
-one_merges Pend = refl
+one_merges p = refl
 
 two_merge_at : (k : ℕ) → went_to 1 2 (if k == 0 then Gen 2 else Gen k) ≡ (if nat_le k 2 then Gen 2 else Gen k)
 two_merge_at k = elim (cases_eq k 0) [
@@ -96,16 +80,7 @@ two_merge_at k = elim (cases_eq k 0) [
 
 two_merge : (p : Place) → went_to 1 2 (went_to 0 2 p) ≡ merged_place 2 p
 two_merge (Gen k) = two_merge_at k
-two_merge Untracked = refl
-two_merge Frozen = refl
-two_merge Cand = refl
-two_merge Seen = refl
-two_merge Back = refl
-two_merge Legacy = refl
-two_merge Pend = refl
-
-pub merges_none : (store : Store) → MergesYounger 0 store store
-merges_none store = record { same = same_itself store; places = λ o. zero_merges (place_of store o) }
+two_merge p = refl
 
 pub merges_one : (store : Store) → MergesYounger 1 store (merged (Gen 0) (Gen 1) store)
 merges_one store = record { same = merged_same 0 1 store; places = λ o. place-merged 0 1 store o ∙ one_merges (place_of store o) }
@@ -121,13 +96,7 @@ went_from i j p e = ap (went_to i j) e ∙ ap (λ b. if b then Gen j else Gen i)
 
 went_not : (i j : ℕ) (p : Place) → p ≢ Gen i → went_to i j p ≡ p
 went_not i j (Gen k) differ = ap (λ b. if b then Gen j else Gen k) (ne_eqb k i (λ e. differ (ap Gen e)))
-went_not i j Untracked differ = refl
-went_not i j Frozen differ = refl
-went_not i j Cand differ = refl
-went_not i j Seen differ = refl
-went_not i j Back differ = refl
-went_not i j Legacy differ = refl
-went_not i j Pend differ = refl
+went_not i j p differ = refl
 
 pub gets_older : (g : ℕ) (store : Store) → GetOlder g store (merged (Gen g) (Gen (older g)) store)
 gets_older g store = record {
@@ -135,8 +104,3 @@ gets_older g store = record {
   moved = λ o at. place-merged g (older g) store o ∙ went_from g (older g) (place_of store o) at;
   others = λ o differ. place-merged g (older g) store o ∙ went_not g (older g) (place_of store o) differ;
 }
-
-pub stays_oldest : (g : ℕ) (store : Store) → 2 ≤ g → g ≤ 2 → GetOlder g store store
-stays_oldest g store above below =
-    let same : g ≡ older g = omega (arith, above, below) in
-    record { same = same_itself store; moved = λ o at. at ∙ ap Gen same; others = λ o differ. refl }

@@ -65,9 +65,8 @@ keeps-same old new same = record { objects = none-mapped old new (λ s n. unwrap
   where
     known : (a b : Option Node) → IsSameNode a b → option_map (λ n. unwrap_or b n) a ≡ b
     known None None h = refl
-    known None (Some m) h = absurd h
-    known (Some n) None h = absurd h
     known (Some n) (Some m) h = refl
+    known a b h = absurd h
 
     nodes : new.nodes ≡ mapped (λ s n. unwrap_or (fin.get new.nodes s) n) old.nodes
     nodes =

@@ -5,7 +5,7 @@ use Rattle.std.specs.FinMap as fin
 use Rattle.std.proofs.lemmas.Bool.{eq-eqb}
 use Rattle.cg_value.specs.declared.Entry.{Entry}
 use Rattle.cg_value.specs.declared.Val.{Val}
-use Rattle.cg_value.specs.declared.Val.TheVariants.{None as Nothing, Int, Str, Ref}
+use Rattle.cg_value.specs.declared.Val.TheVariants.{Ref}
 use Rattle.cg_value.specs.declared.KindCode.TheVariants.{Weak}
 use Rattle.cg_value.specs.declared.Place.{Place}
 use Rattle.cg_value.specs.declared.Place.TheVariants.{Gen, Cand, Seen, Back, Legacy, Pend}
@@ -26,7 +26,7 @@ use Rattle.cg_heap.proofs.HoldLemmas.{outside-moved}
 use Rattle.cg_machine.specs.declared.event.FrameSort.TheVariants.{Callback}
 use Rattle.cg_machine.specs.declared.event.FrameSpec.{FrameSpec}
 use Rattle.cg_machine.specs.World as machine
-use Rattle.cg_machine.specs.World.{World, Activity, Releasing, Collecting, with_stack, with_objects, with_change}
+use Rattle.cg_machine.specs.World.{World, Releasing, Collecting, with_stack, with_objects, with_change}
 use Rattle.cg_machine.specs.Frame.{Transition, start_frame}
 use Rattle.cg_machine.specs.Weak.{callback_of, callback_in}
 use Rattle.cg_machine.specs.Collect.{older, calls_back, after_release}
@@ -49,7 +49,7 @@ use Rattle.cg_collect.specs.Answers.{CollectSteps}
 use Rattle.cg_collect.specs.Turns.{collection_at}
 use Rattle.cg_collect.proofs.PlacesOfObjects.{entries_on}
 use Rattle.cg_collect.proofs.Moving.{moved_same, moved_not, moved_from, value_lives}
-use Rattle.cg_collect.proofs.Worlds.{steps_at, with_same_rows, represents_on, represents_same, represents_giving_up}
+use Rattle.cg_collect.proofs.Worlds.{steps_at, with_same_rows, represents_on, represents_same, represents_giving_up, went}
 use Rattle.cg_collect.proofs.FinalizerPhase.{still_unsaved}
 
 -- a list without a serial, by the machine's test
@@ -123,10 +123,8 @@ module _ (store : Store) (listed : IsListed store) (o : ℕ) (live : IsLive stor
 
 -- a callback lives
 refers_to_it : (v : Val) (f : ℕ) → reference_in v ≡ Some f → v ≡ Ref f
-refers_to_it Nothing f e = absurd (cc)
-refers_to_it (Int n) f e = absurd (cc)
-refers_to_it (Str s) f e = absurd (cc)
 refers_to_it (Ref o) f e = let same : o ≡ f = cc in ap Ref same
+refers_to_it v f e = absurd (cc)
 
 pub callback_lives : (store : Store) → ((s : ℕ) → 0 < inner store s → IsLive store s) → (weak f : ℕ) → callback_of (objects_of store) weak ≡ Some f → IsLive store f
 callback_lives store sound weak f has = known (entries_of store weak) refl (sym (callback-at store weak) ∙ has)
@@ -216,19 +214,9 @@ module _ (script : Script) (facts : Facts) (store : Store) (policy : Policy) whe
       let after : World = with_stack (Collecting (c machine.Finalizing) ∷ below) v in
       let empty : pending ≡ [] = none_first pending none in
       let goes : ([], after) ≡ calls_back script (c (machine.WeakCalling pending)) pending below w = ap (λ p. calls_back script (c (machine.WeakCalling pending)) p below w) (sym empty) in
-      record {
-        events = [];
-        after = after;
-        goes = in_one script w [] after s.running (ap (λ (t : Transition). t.0) goes, ap (λ (t : Transition). t.1) goes);
-        lines = refl;
-        shows = record {
-          represents = represents_same store v below (c (machine.WeakCalling pending)) (c machine.Finalizing) s.shows.represents s.alone empty (λ q. ap (occurrences q) empty);
-          numbers = s.shows.numbers;
-          running = s.shows.running;
-          top = refl;
-        };
-        keeps = record { budget = refl; outcome = refl };
-      })
+      went script w [] after s.running (ap (λ (t : Transition). t.0) goes, ap (λ (t : Transition). t.1) goes) refl
+      (represents_same store v below (c (machine.WeakCalling pending)) (c machine.Finalizing) s.shows.represents s.alone empty (λ q. ap (occurrences q) empty))
+      s.shows.numbers s.shows.running refl refl refl)
 
   -- after its callback a weak reference is given up
   pub turn-released : (weak : ℕ) → slice_get (list_at store Pend) 0 ≡ Some weak → (release : Release) → references_left release ≡ weak ∷ []
@@ -245,21 +233,11 @@ module _ (script : Script) (facts : Facts) (store : Store) (policy : Policy) whe
       let once : occurrences weak (weak ∷ (rest ++ all_waits below)) ≤ 1 = s.orderly.once weak in
       let one : cond {A = ℕ} (weak == weak) 1 0 ≡ 1 = ap (λ b. cond {A = ℕ} b 1 0) (eq-eqb weak weak refl) in
       let others : occurrences weak rest ≡ 0 = omega (arith, once, one, occurrences-cons weak weak (rest ++ all_waits below), occurrences-append weak rest (all_waits below)) in
-      record {
-        events = [];
-        after = after;
-        goes = in_one script w [] after s.running (refl, refl);
-        lines = refl;
-        shows = record {
-          represents = represents_giving_up store store v below (c (machine.AfterCallback weak rest)) (c (machine.AfterRelease weak rest)) s.shows.represents
-              s.alone (weak ∷ []) v.objects s.shows.represents.objects
-              (with_same_rows store store refl refl refl) (inr parts) (λ q. omega (arith, occurrences-cons q weak rest, occurrences-cons q weak []));
-          numbers = s.shows.numbers;
-          running = s.shows.running;
-          top = λ i. Releasing (sym refs i) ∷ Collecting (c (machine.AfterRelease weak (sym (rest_is pending weak first others) i))) ∷ below;
-        };
-        keeps = record { budget = refl; outcome = refl };
-      })
+      went script w [] after s.running (refl, refl) refl
+      (represents_giving_up store store v below (c (machine.AfterCallback weak rest)) (c (machine.AfterRelease weak rest)) s.shows.represents
+      s.alone (weak ∷ []) v.objects s.shows.represents.objects
+      (with_same_rows store store refl refl refl) (inr parts) (λ q. omega (arith, occurrences-cons q weak rest, occurrences-cons q weak [])))
+      s.shows.numbers s.shows.running (λ i. Releasing (sym refs i) ∷ Collecting (c (machine.AfterRelease weak (sym (rest_is pending weak first others) i))) ∷ below) refl refl)
 
   -- one freed by giving it up is counted
   pub turn-died : (weak : ℕ) → IsListed store → ¬ IsLive store weak
@@ -283,19 +261,9 @@ module _ (script : Script) (facts : Facts) (store : Store) (policy : Policy) whe
         Rattle.cg_machine.specs.Collect.collection_at c (machine.WeakCalling others) below
             (with_change (object_placed (Gen (older c.generation))) weak w),
       ) else ([], after)) (sym gone) in
-      record {
-        events = [];
-        after = after;
-        goes = in_one script w [] after s.running (ap (λ (t : Transition). t.0) goes, ap (λ (t : Transition). t.1) goes);
-        lines = refl;
-        shows = record {
-          represents = represents_same store v below c (d (machine.WeakCalling others)) s.shows.represents s.alone (sym all) (λ q. refl);
-          numbers = s.shows.numbers;
-          running = s.shows.running;
-          top = λ i. Collecting (d (machine.WeakCalling (all i))) ∷ below;
-        };
-        keeps = record { budget = refl; outcome = refl };
-      })
+      went script w [] after s.running (ap (λ (t : Transition). t.0) goes, ap (λ (t : Transition). t.1) goes) refl
+      (represents_same store v below c (d (machine.WeakCalling others)) s.shows.represents s.alone (sym all) (λ q. refl))
+      s.shows.numbers s.shows.running (λ i. Collecting (d (machine.WeakCalling (all i))) ∷ below) refl refl)
 
   -- another moves to the older generation
   module _ (weak : ℕ) (listed : IsListed store) (live : IsLive store weak) (g : ℕ) (small : g ≤ 2) where
@@ -322,22 +290,12 @@ module _ (script : Script) (facts : Facts) (store : Store) (policy : Policy) whe
           Rattle.cg_machine.specs.Collect.collection_at (record (c (machine.AfterRelease weak others))
               { collected = facts.collected + 1 }) (machine.WeakCalling others) below w,
         )) (sym there) in
-        record {
-          events = [];
-          after = after;
-          goes = in_one script w [] after s.running (ap (λ (t : Transition). t.0) goes, ap (λ (t : Transition). t.1) goes);
-          lines = refl;
-          shows = record {
-            represents = represents_on store aged v below (c (machine.AfterRelease weak others)) (c (machine.WeakCalling others)) s.shows.represents s.alone objects
-                (objects-changed store weak (with_place (Gen (older g))) (object_placed (Gen (older g))) (λ k n. refl)
-                ∙ ap (change (object_placed (Gen (older g))) weak) same ∙ ap (λ k. change (object_placed (Gen (older k))) weak v.objects) (sym generation))
-                (with_same_rows store aged refl refl refl) all (λ q. omega (arith, outside-moved weak (Gen (older g)) store q));
-            numbers = s.shows.numbers;
-            running = s.shows.running;
-            top = λ i. Collecting (c (machine.WeakCalling (sym all i))) ∷ below;
-          };
-          keeps = record { budget = refl; outcome = refl };
-        })
+        went script w [] after s.running (ap (λ (t : Transition). t.0) goes, ap (λ (t : Transition). t.1) goes) refl
+        (represents_on store aged v below (c (machine.AfterRelease weak others)) (c (machine.WeakCalling others)) s.shows.represents s.alone objects
+        (objects-changed store weak (with_place (Gen (older g))) (object_placed (Gen (older g))) (λ k n. refl)
+        ∙ ap (change (object_placed (Gen (older g))) weak) same ∙ ap (λ k. change (object_placed (Gen (older k))) weak v.objects) (sym generation))
+        (with_same_rows store aged refl refl refl) all (λ q. omega (arith, outside-moved weak (Gen (older g)) store q)))
+        s.shows.numbers s.shows.running (λ i. Collecting (c (machine.WeakCalling (sym all i))) ∷ below) refl refl)
 
 -- the callback of one that has one
 pub callback_there : (x : Option ℕ) → IsSome x → x ≡ Some (unwrap_or x 0)

@@ -195,15 +195,13 @@ same_more a b c s t = record {
 
 entries_same : (a b : Option Node) → IsSameNode a b → entries_in b ≡ entries_in a
 entries_same None None h = refl
-entries_same None (Some m) h = absurd h
-entries_same (Some n) None h = absurd h
 entries_same (Some n) (Some m) h = ap (λ (x : Node). x.entries) h
+entries_same a b h = absurd h
 
 outside_same : (a b : Option Node) → IsSameNode a b → outside_in b ≡ outside_in a
 outside_same None None h = refl
-outside_same None (Some m) h = absurd h
-outside_same (Some n) None h = absurd h
 outside_same (Some n) (Some m) h = ap (λ (x : Node). x.outside) h
+outside_same a b h = absurd h
 
 live_same : (a b : Option Node) → IsSameNode a b → IsSome a → IsSome b
 live_same None b h l = absurd (cc)
@@ -217,9 +215,8 @@ live_back_same (Some n) b h l = refl
 
 node_kept : (a b : Option Node) → IsSameNode a b → b ≡ option_map (λ (n : Node). record n { place = place_in b; number = number_in b }) a
 node_kept None None h = refl
-node_kept None (Some m) h = absurd h
-node_kept (Some n) None h = absurd h
 node_kept (Some n) (Some m) h = ap Some h
+node_kept a b h = absurd h
 
 module _ (old new : Store) (same : IsSameButPlaces old new) where
   pub live_on : (s : ℕ) → IsLive old s → IsLive new s

@@ -44,11 +44,7 @@ may objects o = unwrap_or (option_map may_be_tracked (object_at objects o)) fals
 may-node : (code : KindCode) (place : Place) (x : Object) → x.code ≡ code → x.place ≡ place → may_be_tracked x ≡ code_may_be_tracked code place
 may-node Tuple place x e f = ap (λ c. if elim c [ ListKind ↦ false | Tuple ↦ true | Dict ↦ false | Inst ↦ false | Func ↦ false | Weak ↦ false ]
     then is_tracked x else true) e ∙ ap (λ p. not (same_place p Untracked)) f
-may-node ListKind place x e f = ap (λ c. if elim c [ ListKind ↦ false | Tuple ↦ true | Dict ↦ false | Inst ↦ false | Func ↦ false | Weak ↦ false ] then is_tracked x else true) e
-may-node Dict place x e f = ap (λ c. if elim c [ ListKind ↦ false | Tuple ↦ true | Dict ↦ false | Inst ↦ false | Func ↦ false | Weak ↦ false ] then is_tracked x else true) e
-may-node Inst place x e f = ap (λ c. if elim c [ ListKind ↦ false | Tuple ↦ true | Dict ↦ false | Inst ↦ false | Func ↦ false | Weak ↦ false ] then is_tracked x else true) e
-may-node Func place x e f = ap (λ c. if elim c [ ListKind ↦ false | Tuple ↦ true | Dict ↦ false | Inst ↦ false | Func ↦ false | Weak ↦ false ] then is_tracked x else true) e
-may-node Weak place x e f = ap (λ c. if elim c [ ListKind ↦ false | Tuple ↦ true | Dict ↦ false | Inst ↦ false | Func ↦ false | Weak ↦ false ] then is_tracked x else true) e
+may-node code place x e f = ap (λ c. if elim c [ ListKind ↦ false | Tuple ↦ true | Dict ↦ false | Inst ↦ false | Func ↦ false | Weak ↦ false ] then is_tracked x else true) e
 
 may-store : (store : Store) (p : ℕ) → may (objects_of store) p ≡ trackable store p
 may-store store p = ap (λ x. unwrap_or (option_map may_be_tracked x) false) (object-at store p) ∙ known (fin.get store.nodes p)
@@ -89,11 +85,7 @@ tuple_code x h = known x.code h
   where
     known : (c : KindCode) → elim c [ ListKind ↦ false | Tuple ↦ true | Dict ↦ false | Inst ↦ false | Func ↦ false | Weak ↦ false ] ≡ true → c ≡ Tuple
     known Tuple e = refl
-    known ListKind e = absurd (cc)
-    known Dict e = absurd (cc)
-    known Inst e = absurd (cc)
-    known Func e = absurd (cc)
-    known Weak e = absurd (cc)
+    known c e = absurd (cc)
 
 is_tuple-of : (x : Object) → x.code ≡ Tuple → is_tuple x ≡ true
 is_tuple-of x e = ap (λ c. elim c [ ListKind ↦ false | Tuple ↦ true | Dict ↦ false | Inst ↦ false | Func ↦ false | Weak ↦ false ]) e
@@ -103,11 +95,7 @@ dict_code x h = known x.code h
   where
     known : (c : KindCode) → elim c [ Dict ↦ true | _ ↦ false ] ≡ true → c ≡ Dict
     known Dict e = refl
-    known ListKind e = absurd (cc)
-    known Tuple e = absurd (cc)
-    known Inst e = absurd (cc)
-    known Func e = absurd (cc)
-    known Weak e = absurd (cc)
+    known c e = absurd (cc)
 
 is_dict-of : (x : Object) → x.code ≡ Dict → is_dict x ≡ true
 is_dict-of x e = ap (λ c. elim c [ Dict ↦ true | _ ↦ false ]) e

@@ -4,6 +4,7 @@ use Rattle.std.specs.Prelude.{◌==◌, if◌then◌else◌, bit_and, slice_get}
 use Rattle.std.proofs.lemmas.Bool.{cases_eq, eq-eqb, ne_eqb}
 use Rattle.std.proofs.lemmas.Nat.Bits.{and_pow, bit_at-lt}
 use Rattle.std.specs.Int.{bit_at}
+use Rattle.cg_value.specs.declared.Place.{Place}
 use Rattle.cg_value.specs.declared.Place.TheVariants.{Cand, Pend}
 use Rattle.cg_script.specs.declared.Script.{Script}
 use Rattle.cg_graph.specs.Member.{Includes}
@@ -11,7 +12,7 @@ use Rattle.cg_graph.specs.Store.{Store, list_at, place_of}
 use Rattle.cg_graph.proofs.Members.{either, Includes-append_right}
 use Rattle.cg_machine.specs.declared.event.Event.TheVariants.{Gens, GcCollectable}
 use Rattle.cg_machine.specs.World.{World, Activity}
-use Rattle.cg_machine.specs.Collect.{has_flag, lines_if, stats, collectable}
+use Rattle.cg_machine.specs.Collect.{has_flag, lines_if, collectable}
 use Rattle.cg_arena.specs.Nodes.{following}
 use Rattle.cg_heap.specs.Calls.{IsListed}
 use Rattle.cg_policy.specs.Policy.{Policy}
@@ -47,9 +48,6 @@ flag_of flags m b some below is = elim (cases_eq b 0) [
         below_two : (n : ℕ) → n < 2 → n ≢ 1 → n ≡ 0
         below_two n low other = grind (arith, low, other)
 
-pub stats_at : (flags : ℕ) → (bit_and flags 1 == 1) ≡ has_flag flags stats
-stats_at flags = flag_of flags 1 (bit_at flags 0) (omega arith) (bit_at-lt flags 0) (and_pow flags 0)
-
 pub collectable_at : (flags : ℕ) → (bit_and flags 2 == 2) ≡ has_flag flags collectable
 collectable_at flags = flag_of flags 2 (bit_at flags 1) (omega arith) (bit_at-lt flags 1) (and_pow flags 1)
 
@@ -73,10 +71,10 @@ split_at [] o h = absurd h
 split_at (x ∷ xs) o (inl e) = ([], xs, ap (λ y. y ∷ xs) e)
 split_at (x ∷ xs) o (inr h) = let rest = split_at xs o h in (x ∷ rest.0, rest.1, ap (λ l. x ∷ l) rest.2)
 
--- one is printed, and those after it are left
-module _ (store : Store) (listed : IsListed store) (o : ℕ) (here : Includes (list_at store Cand) o) (after : Option ℕ) (comes : after ≡ following o (list_at store (place_of store o))) where
+-- The next of a walk over the list of a place.
+module _ (store : Store) (listed : IsListed store) (p : Place) (o : ℕ) (here : Includes (list_at store p) o) (after : Option ℕ) (comes : after ≡ following o (list_at store (place_of store o))) where
   abbrev xs : List ℕ
-  xs = list_at store Cand
+  xs = list_at store p
 
   parts : (front : List ℕ) × (back : List ℕ) × (xs ≡ front ++ o ∷ back)
   parts = split_at xs o here
@@ -85,17 +83,17 @@ module _ (store : Store) (listed : IsListed store) (o : ℕ) (here : Includes (l
   here_at = record { parts = parts.2; at = refl }
 
   passed : (rest : List ℕ) × (o ∷ parts.1 ≡ o ∷ rest) × Walked xs after (parts.0 ++ o ∷ []) rest
-  passed = walk_passes xs o after parts.0 (o ∷ parts.1) here_at (comes_next store listed Cand o after comes)
+  passed = walk_passes xs o after parts.0 (o ∷ parts.1) here_at (comes_next store listed p o after comes)
 
-  pub from_next : from_on (Some o) xs ≡ o ∷ from_on after xs
-  from_next =
+  pub next_from : from_on (Some o) xs ≡ o ∷ from_on after xs
+  next_from =
       from_ahead (Some o) xs
-      ∙ ahead_is xs (Some o) parts.0 (o ∷ parts.1) (once_at store listed Cand) here_at
+      ∙ ahead_is xs (Some o) parts.0 (o ∷ parts.1) (once_at store listed p) here_at
       ∙ passed.1
-      ∙ ap (λ l. o ∷ l) (sym (from_ahead after xs ∙ ahead_is xs after (parts.0 ++ o ∷ []) passed.0 (once_at store listed Cand) passed.2))
+      ∙ ap (λ l. o ∷ l) (sym (from_ahead after xs ∙ ahead_is xs after (parts.0 ++ o ∷ []) passed.0 (once_at store listed p) passed.2))
 
-  pub at_next : IsAt after xs
-  at_next = go after passed.0 passed.2
+  pub next_at : IsAt after xs
+  next_at = go after passed.0 passed.2
     where
       go : (cursor : Option ℕ) (rest : List ℕ) → Walked xs cursor (parts.0 ++ o ∷ []) rest → IsAt cursor xs
       go None rest at = tt

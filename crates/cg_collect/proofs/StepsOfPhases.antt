@@ -19,6 +19,7 @@ use Rattle.cg_collect.specs.Looks.{looks_left, most_looks}
 use Rattle.cg_collect.specs.Stages.{detection_at, stage_at, MeetsStage}
 use Rattle.cg_collect.specs.Collections.{IsReadyForCollection, KeepsReady, CollectFalls, CollectionEndsWith, DiesUnheld, facts_of, given_up_by, own_holds_at, held_by}
 use Rattle.cg_collect.proofs.Stages.{TakesStep, also-steps, leaves_stage}
+use Rattle.cg_collect.proofs.GivingUp.{in_each}
 
 -- what a collection holds: what it is giving up, and what its phase holds
 pub given_up_held : (c : Collection) (store : Store) → HasHolds store (held_by c) → HasHolds store (given_up_by c.release)
@@ -29,51 +30,13 @@ phase_held c store held s = let all = held s in omega (arith, all, occurrences-a
 
 -- the phases that a frame runs in
 runs_in : (p : Phase) (release : Option Release) → RunsFrame p release → MayRun p
-runs_in phase_of.Start release runs = absurd runs
-runs_in (phase_of.Sizes zero one two frozen) release runs = absurd runs
-runs_in (phase_of.Telling next) release runs = absurd runs
-runs_in (phase_of.WeakClearing member weak) release runs = absurd runs
-runs_in phase_of.WeakCalling release runs = absurd runs
 runs_in (phase_of.AfterCallback weak) release runs = tt
-runs_in (phase_of.AfterRelease weak) release runs = absurd runs
-runs_in phase_of.Finalizing release runs = absurd runs
 runs_in (phase_of.AfterFinalizing o) release runs = tt
-runs_in phase_of.Split release runs = absurd runs
-runs_in (phase_of.Living next) release runs = absurd runs
-runs_in (phase_of.Detaching next) release runs = absurd runs
-runs_in (phase_of.Unlinking member weak) release runs = absurd runs
-runs_in phase_of.Turns release runs = absurd runs
-runs_in (phase_of.Turn o) release runs = absurd runs
-runs_in (phase_of.AfterTurn o) release runs = absurd runs
-runs_in phase_of.Ending release runs = absurd runs
-runs_in (phase_of.Uncollectable first next number) release runs = absurd runs
-runs_in (phase_of.Saved next number) release runs = absurd runs
-runs_in (phase_of.Stopping number) release runs = absurd runs
-runs_in (phase_of.Over number) release runs = absurd runs
+runs_in p release runs = absurd runs
 
 -- a step that gives something up leaves no looks
 pub none_left : (p now : Phase) (release : Release) (store : Store) → GivesUpIn p (Some release) → looks_left p now store ≡ 0
-none_left phase_of.Start now release store may = absurd may
-none_left (phase_of.Sizes zero one two frozen) now release store may = absurd may
-none_left (phase_of.Telling next) now release store may = absurd may
-none_left (phase_of.WeakClearing member weak) now release store may = absurd may
-none_left phase_of.WeakCalling now release store may = absurd may
-none_left (phase_of.AfterCallback weak) now release store may = absurd may
-none_left (phase_of.AfterRelease weak) now release store may = refl
-none_left phase_of.Finalizing now release store may = refl
-none_left (phase_of.AfterFinalizing o) now release store may = absurd may
-none_left phase_of.Split now release store may = absurd may
-none_left (phase_of.Living next) now release store may = absurd may
-none_left (phase_of.Detaching next) now release store may = absurd may
-none_left (phase_of.Unlinking member weak) now release store may = absurd may
-none_left phase_of.Turns now release store may = absurd may
-none_left (phase_of.Turn o) now release store may = refl
-none_left (phase_of.AfterTurn o) now release store may = refl
-none_left phase_of.Ending now release store may = absurd may
-none_left (phase_of.Uncollectable first next number) now release store may = absurd may
-none_left (phase_of.Saved next number) now release store may = absurd may
-none_left (phase_of.Stopping number) now release store may = absurd may
-none_left (phase_of.Over number) now release store may = absurd may
+none_left p now release store = in_each (λ q. looks_left q now store ≡ 0) (λ weak. refl) refl (λ o. refl) (λ o. refl) p
 
 -- only the start comes before all passes, and it goes on
 begun_onward : (old next : Phase) → pass_of old + passes_on old ≤ pass_of next → IsBegun next
@@ -105,18 +68,13 @@ module _ (script : Script) (old : Collection) (store : Store) (policy : Policy) 
       (ready.generation, omega (arith, numbers.0, numbers.1, out.2))
 
   none_dies : (answer : CollectStep) → HandsOutIn (facts_of old) old.phase answer turn.phase turn.release → DiesUnheld answer now
-  none_dies answer_of.Continue out = tt
-  none_dies (answer_of.Emit event) out = tt
-  none_dies (answer_of.Frame spec) out = tt
   none_dies (answer_of.Died o) out = absurd out
-  none_dies (answer_of.Finished collected set_aside) out = tt
+  none_dies answer out = tt
 
   ends_with : (answer : CollectStep) → HandsOutIn (facts_of old) old.phase answer turn.phase turn.release → CollectionEndsWith old answer
-  ends_with answer_of.Continue out = tt
-  ends_with (answer_of.Emit event) out = tt
-  ends_with (answer_of.Frame spec) out = tt
   ends_with (answer_of.Died o) out = absurd out
   ends_with (answer_of.Finished collected set_aside) out = (out.0, out.2)
+  ends_with answer out = tt
 
   turn-step : TakesStep script old store policy after now policy_now turn.answer
   turn-step = record {

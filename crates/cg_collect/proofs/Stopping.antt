@@ -1,9 +1,9 @@
 -- The end: the heap does the machine's step, and the following calls print its lines.
-use Rattle.std.proofs.Common.{◌≡◌, refl, sym, ◌∙◌, ap, subst, ℕ, ◌+◌, Bool, true, false, cond, ◌&&◌, ◌||◌, inl, inr, List, [], ◌∷◌, ◌++◌, length, map, Option, Some, None, is_some, arith}
+use Rattle.std.proofs.Common.{◌≡◌, refl, sym, ◌∙◌, ap, subst, ℕ, ◌+◌, Bool, true, false, cond, ◌&&◌, ◌||◌, inr, List, [], ◌∷◌, ◌++◌, length, map, Option, Some, None, is_some, arith}
 use Rattle.std.specs.Prelude.{◌==◌, if◌then◌else◌, filter, flat_map, count_by, option_map, option_and_then, slice_get}
 use Rattle.std.proofs.lemmas.Bool.{ne_eqb}
 use Rattle.cg_value.specs.declared.Place.{Place}
-use Rattle.cg_value.specs.declared.Place.TheVariants.{Untracked, Gen, Frozen, Cand, Seen, Back, Legacy, Pend}
+use Rattle.cg_value.specs.declared.Place.TheVariants.{Gen, Legacy}
 use Rattle.cg_value.specs.declared.Val.TheVariants.{Ref}
 use Rattle.cg_script.specs.declared.Script.{Script}
 use Rattle.cg_graph.specs.Value.{item}
@@ -21,7 +21,7 @@ use Rattle.cg_heap.proofs.HoldLemmas.{outside-rewritten}
 use Rattle.cg_machine.specs.declared.event.Event.{Event}
 use Rattle.cg_machine.specs.declared.event.Event.TheVariants.{GcUncollectable, GcSaved, GcStop, Collected}
 use Rattle.cg_machine.specs.World as machine
-use Rattle.cg_machine.specs.World.{World, Activity, Collecting, Dying, Death, with_stack, with_objects}
+use Rattle.cg_machine.specs.World.{World, Activity, Collecting, with_stack, with_objects}
 use Rattle.cg_machine.specs.Holdings.{holds, collect_holds, is_collection}
 use Rattle.cg_machine.specs.Program.{legacy_of}
 use Rattle.cg_represents.specs.Represents.{Represents}
@@ -31,7 +31,7 @@ use Rattle.cg_policy.specs.Policy.{Policy}
 use Rattle.cg_policy.specs.Flagset.{bits_of}
 use Rattle.cg_trial.specs.View.{view_of, Merged}
 use Rattle.cg_trial.specs.Split.{IsSameButPlaces}
-use Rattle.cg_trial.proofs.Lists.{IsAt as Walked, ahead_is}
+use Rattle.cg_trial.proofs.Lists.{ahead_is}
 use Rattle.cg_trial.proofs.PlacesOfObjects.{once_at, where_is, is_there}
 use Rattle.cg_trial.proofs.Ends.{same_but_places}
 use Rattle.cg_trial.proofs.EffectsOfCalls.{merged_view}
@@ -46,46 +46,20 @@ use Rattle.cg_collect.specs.Answers.{CollectionShows, CollectSteps}
 use Rattle.cg_collect.specs.Turns.{collection_at, list_around}
 use Rattle.cg_represents.proofs.Places.{place_at_is, place_is}
 use Rattle.cg_collect.proofs.PlacesOfObjects.{node_of_live, node_there, place_there, live_there, object_there, once_among, same_times, list_has, outside_on}
-use Rattle.cg_collect.proofs.Moving.{walk_passes, comes_next}
-use Rattle.cg_collect.proofs.StartLines.{from_ahead, split_at, at_first}
+use Rattle.cg_collect.proofs.StartLines.{from_ahead, at_first, next_from, next_at}
 use Rattle.cg_collect.proofs.SavedObjects.{occurrences-filter, objects-all_saved, saved-alike, saved-rewritten}
 use Rattle.cg_collect.proofs.Worlds.{steps_at, only_tells, none_below, LeavesRest, with_same_rows}
 
--- The next of a walk over the list of a place.
+-- One less is left of a walk over the list of a place.
 module _ (store : Store) (listed : IsListed store) (p : Place) (o : ℕ) (here : Includes (list_at store p) o) (after : Option ℕ) (comes : after ≡ following o (list_at store (place_of store o))) where
   abbrev xs : List ℕ
   xs = list_at store p
 
-  parts : (front : List ℕ) × (back : List ℕ) × (xs ≡ front ++ o ∷ back)
-  parts = split_at xs o here
-
-  here_at : Walked xs (Some o) parts.0 (o ∷ parts.1)
-  here_at = record { parts = parts.2; at = refl }
-
-  passed : (rest : List ℕ) × (o ∷ parts.1 ≡ o ∷ rest) × Walked xs after (parts.0 ++ o ∷ []) rest
-  passed = walk_passes xs o after parts.0 (o ∷ parts.1) here_at (comes_next store listed p o after comes)
-
-  pub next_from : from_on (Some o) xs ≡ o ∷ from_on after xs
-  next_from =
-      from_ahead (Some o) xs
-      ∙ ahead_is xs (Some o) parts.0 (o ∷ parts.1) (once_at store listed p) here_at
-      ∙ passed.1
-      ∙ ap (λ l. o ∷ l) (sym (from_ahead after xs ∙ ahead_is xs after (parts.0 ++ o ∷ []) passed.0 (once_at store listed p) passed.2))
-
-  pub next_at : IsAt after xs
-  next_at = go after passed.0 passed.2
-    where
-      go : (cursor : Option ℕ) (rest : List ℕ) → Walked xs cursor (parts.0 ++ o ∷ []) rest → IsAt cursor xs
-      go None rest at = tt
-      go (Some q) [] at = absurd (let e : Some q ≡ None = at.at in cc)
-      go (Some q) (y ∷ rest) at = let same : q ≡ y = let e : Some q ≡ Some y = at.at in cc in subst (λ l. Includes l q) (sym at.parts)
-          (Includes-append_right (parts.0 ++ o ∷ []) (y ∷ rest) q (inl (sym same)))
-
   pub around_shorter : length (from_on after (list_around store after)) + 1 ≡ length (from_on (Some o) (list_around store (Some o)))
   around_shorter =
       let at : place_of store o ≡ p = (where_is store listed p o here).1 in
-      let before : length (from_on (Some o) (list_around store (Some o))) ≡ length (o ∷ from_on after xs) = ap (λ q. length (from_on (Some o) (list_at store q))) at ∙ ap length next_from in
-      let later : length (from_on after (list_around store after)) ≡ length (from_on after xs) = ap length (known after next_at) in
+      let before : length (from_on (Some o) (list_around store (Some o))) ≡ length (o ∷ from_on after xs) = ap (λ q. length (from_on (Some o) (list_at store q))) at ∙ ap length (next_from store listed p o here after comes) in
+      let later : length (from_on after (list_around store after)) ≡ length (from_on after xs) = ap length (known after (next_at store listed p o here after comes)) in
       omega (arith, before, later)
     where
       known : (cursor : Option ℕ) → IsAt cursor xs → from_on cursor (list_around store cursor) ≡ from_on cursor xs
@@ -191,14 +165,8 @@ represents_over old new v below a r alone objects are rest held =
 
 -- the place of uncollectable objects, by its number
 legacy_number : (p : Place) → (place_number p == 5) ≡ same_place p Legacy
-legacy_number Untracked = refl
 legacy_number (Gen i) = ne_eqb (7 + i) 5 (λ e. absurd (omega (arith, e)))
-legacy_number Frozen = refl
-legacy_number Cand = refl
-legacy_number Seen = refl
-legacy_number Back = refl
-legacy_number Legacy = refl
-legacy_number Pend = refl
+legacy_number p = refl
 
 filter_alike : (f g : ℕ → Bool) (xs : List ℕ) → ((o : ℕ) → f o ≡ g o) → filter f xs ≡ filter g xs
 filter_alike f g xs same = λ i. filter (λ o. same o i) xs
@@ -313,9 +281,6 @@ module _ (script : Script) (facts : Facts) (store : Store) (root : IsLive store 
       all_lines asked told =
           lines_if told (map GcUncollectable aside) ++ map GcSaved (kept_aside script flags store) ++ GcStop facts.generation facts.collected (length aside)
           ∷ lines_if asked (Collected (facts.collected + length aside) ∷ [])
-
-      pending_kept : list_at store Pend ≡ [] → list_at ended Pend ≡ []
-      pending_kept none = view.others Pend (λ e. cc) (λ e. cc) ∙ none
 
       saved_part : (asked : Bool) → saved_lines script flags ended (from_on first (list_at ended p))
           ++ stop_lines asked (collection_at facts (phase_of.Saved first number) None) number ≡ all_lines asked false

@@ -4,7 +4,6 @@ use Rattle.std.specs.Prelude.{option_map, option_and_then, is_some, slice_get, s
 use Rattle.std.specs.FinMap as fin
 use Rattle.std.proofs.lemmas.Bool.{cases_eq}
 use Rattle.std.proofs.lemmas.List.Sums.{sum_by-append, sum_by-cons}
-use Rattle.std.proofs.Math.Seq.{take-length}
 use Rattle.cg_value.specs.declared.Entry.{Entry}
 use Rattle.cg_value.specs.declared.Place.TheVariants.{Cand, Legacy}
 use Rattle.cg_script.specs.declared.Script.{Script}
@@ -97,9 +96,6 @@ setting_more o old mid half new i e so is one two = record {
       (aside_more (references (take i (entries_of old o)) ++ targets e.val) (targets e.key) old half new
       (aside_more (references (take i (entries_of old o))) (targets e.val) old mid half so.so_far one) two);
 }
-
-pub setting_all : (o : ℕ) (old now : Store) (i : ℕ) → i ≡ length (entries_of old o) → Setting o old now i → SetsReferencesAside (references (entries_of old o)) old now
-setting_all o old now i is so = subst (λ (es : List Entry). SetsReferencesAside (references es) old now) (ap (λ n. take n (entries_of old o)) is ∙ take-length (entries_of old o)) so.so_far
 
 -- Each of these was looked at once.
 pub record SettingLooked (o : ℕ) (old now : Store) (i before looks : ℕ) : Type 0 where
@@ -237,9 +233,8 @@ legacy_alike script old new same o =
     known : (a b : Option Node) → IsSameNode a b → is_some (option_and_then (legacy_of script) (option_map (object_from new.rows o) b))
         ≡ is_some (option_and_then (legacy_of script) (option_map (object_from old.rows o) a))
     known None None h = refl
-    known None (Some m) h = absurd h
-    known (Some n) None h = absurd h
     known (Some n) (Some m) h = ap (λ (x : Node). is_some (legacy_of script (object_from old.rows o x))) h
+    known a b h = absurd h
 
 -- The walk over the candidates: those that it passed have no legacy finalizer.
 pub record Finding (script : Script) (old now : Store) (cursor : Option ℕ) : Type 0 where

@@ -32,7 +32,8 @@ use Rattle.cg_collect.specs.Turns.{collection_at, left_to_walk}
 use Rattle.cg_collect.proofs.RowWalks.{older_ones, older_below, looks_here, looks_on, looks_on_without, next_older, older_refers, referent-listed, listed-referent, references-le}
 use Rattle.cg_collect.proofs.WalkTurns.{looks_all, less}
 use Rattle.cg_collect.proofs.StartLines.{from_first, at_first}
-use Rattle.cg_collect.proofs.Stopping.{tells_none, next_from, next_at}
+use Rattle.cg_collect.proofs.StartLines.{next_from, next_at}
+use Rattle.cg_collect.proofs.Stopping.{tells_none}
 use Rattle.cg_collect.proofs.Worlds.{only_tells}
 use Rattle.cg_collect.proofs.RowFilters.{without_rows-cons, without_rows-nil, referent_left, referent_gone, unreferred_left}
 use Rattle.cg_collect.proofs.FinalRows.{none_lost, none_referring, same_without}

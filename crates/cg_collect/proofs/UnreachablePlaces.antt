@@ -7,7 +7,7 @@ use Rattle.std.proofs.lemmas.Bool.{cases_eq}
 use Rattle.std.proofs.lemmas.List.Sums.{sum_by-cons}
 use Rattle.cg_value.specs.declared.KindCode.TheVariants.{Tuple}
 use Rattle.cg_value.specs.declared.Place.{Place}
-use Rattle.cg_value.specs.declared.Place.TheVariants.{Untracked, Gen, Frozen, Cand, Seen, Back, Legacy, Pend}
+use Rattle.cg_value.specs.declared.Place.TheVariants.{Untracked, Gen, Cand, Seen, Back, Legacy, Pend}
 use Rattle.cg_script.specs.declared.Script.{Script}
 use Rattle.cg_graph.specs.Member.{Includes}
 use Rattle.cg_graph.specs.Value.{references}
@@ -99,13 +99,7 @@ merged_other g (Gen i) q other e = absurd (gens (nat_le i g) e)
     gens : (b : Bool) → (if b then Gen g else Gen i) ≡ q → ⊥
     gens true h = other g (sym h)
     gens false h = other i (sym h)
-merged_other g Untracked q other e = e
-merged_other g Frozen q other e = e
-merged_other g Cand q other e = e
-merged_other g Seen q other e = e
-merged_other g Back q other e = e
-merged_other g Legacy q other e = e
-merged_other g Pend q other e = e
+merged_other g p q other e = e
 
 pub nobody_merged : (g : ℕ) (old new : Store) → MergesYounger g old new → IsListed old → (q : Place) → Untracked ≢ q → ((i : ℕ) → q ≢ Gen i) → list_at old q ≡ [] → (o : ℕ) → place_of new o ≢ q
 nobody_merged g old new merges listed q tracked other empty o at =

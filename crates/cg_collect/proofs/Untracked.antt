@@ -1,18 +1,17 @@
 -- A pass that untracks objects without a reference that may be tracked.
-use Rattle.std.proofs.Common.{◌≡◌, ◌≢◌, refl, sym, ◌∙◌, ap, subst, ℕ, ◌+◌, ◌<◌, ◌≤◌, ◌⊎◌, inl, inr, Bool, true, false, not, ◌||◌, List, [], ◌∷◌, ◌++◌, length, take, drop, Option, Some, None, IsSome, arith}
-use Rattle.std.specs.Prelude.{IfSome, slice_get, sum_by}
+use Rattle.std.proofs.Common.{◌≡◌, ◌≢◌, refl, sym, ◌∙◌, ap, subst, ℕ, ◌+◌, ◌<◌, ◌≤◌, ◌⊎◌, inl, inr, Bool, true, false, not, ◌||◌, List, [], ◌∷◌, ◌++◌, length, take, drop, Option, Some, None, arith}
+use Rattle.std.specs.Prelude.{slice_get, sum_by}
 use Rattle.std.specs.List.{list_any}
 use Rattle.std.specs.FinMap as fin
 use Rattle.std.proofs.lemmas.Bool.{cases_eq}
 use Rattle.std.proofs.lemmas.List.{take-append-drop}
 use Rattle.std.proofs.lemmas.List.Folds.{list_any-append}
 use Rattle.std.proofs.lemmas.List.Sums.{sum_by-cons}
-use Rattle.std.proofs.Math.Seq.{take-length}
 use Rattle.cg_value.specs.declared.Entry.{Entry}
 use Rattle.cg_value.specs.declared.Val.{Val}
-use Rattle.cg_value.specs.declared.Val.TheVariants.{None as Nothing, Int, Str, Ref}
+use Rattle.cg_value.specs.declared.Val.TheVariants.{Ref}
 use Rattle.cg_value.specs.declared.KindCode.{KindCode}
-use Rattle.cg_value.specs.declared.KindCode.TheVariants.{List as ListKind, Tuple, Dict, Inst, Func, Weak}
+use Rattle.cg_value.specs.declared.KindCode.TheVariants.{Tuple}
 use Rattle.cg_value.specs.declared.Place.{Place}
 use Rattle.cg_value.specs.declared.Place.TheVariants.{Untracked, Gen}
 use Rattle.cg_graph.specs.Member.{Includes}
@@ -54,21 +53,16 @@ any_alike p q same (x ∷ xs) = λ i. same x i || any_alike p q same xs i
 -- an untracked node may be tracked only if a tracked one may
 code_fewer : (code : KindCode) (place : Place) → code_may_be_tracked code Untracked ≡ true → code_may_be_tracked code place ≡ true
 code_fewer Tuple place h = absurd (cc)
-code_fewer ListKind place h = refl
-code_fewer Dict place h = refl
-code_fewer Inst place h = refl
-code_fewer Func place h = refl
-code_fewer Weak place h = refl
+code_fewer code place h = refl
 
 node_fewer : (a b : Option Node) → IsSameNode a b → (place_in b ≡ place_in a) ⊎ (place_in b ≡ Untracked) → node_may_be_tracked b ≡ true → node_may_be_tracked a ≡ true
 node_fewer None None same went h = h
-node_fewer None (Some m) same went h = absurd same
-node_fewer (Some n) None same went h = absurd same
 node_fewer (Some n) (Some m) same went h =
     let code : m.code ≡ n.code = ap (λ (x : Node). x.code) same in
     either went
     (λ e. (λ i. code_may_be_tracked (sym code i) (sym e i)) ∙ h)
     (λ e. code_fewer n.code n.place ((λ i. code_may_be_tracked (sym code i) (sym e i)) ∙ h))
+node_fewer a b same went h = absurd same
 
 -- If objects were only untracked, what may be tracked afterwards could be before.
 pub fewer_tracked : (a b : Store) → IsSameButPlaces a b → ((o : ℕ) → StaysAt a b o ⊎ (place_of b o ≡ Untracked)) → (p : ℕ) → trackable b p ≡ true → trackable a p ≡ true
@@ -82,20 +76,15 @@ none_tracked_on a b same went o h =
 code_alike : (code : KindCode) (p q : Place) → (same_place q Untracked ≡ same_place p Untracked) ⊎ (code ≢ Tuple) → code_may_be_tracked code q ≡ code_may_be_tracked code p
 code_alike Tuple p q (inl e) = ap not e
 code_alike Tuple p q (inr other) = absurd (other refl)
-code_alike ListKind p q h = refl
-code_alike Dict p q h = refl
-code_alike Inst p q h = refl
-code_alike Func p q h = refl
-code_alike Weak p q h = refl
+code_alike code p q h = refl
 
 node_alike : (a b : Option Node) → IsSameNode a b → (same_place (place_in b) Untracked ≡ same_place (place_in a) Untracked)
     ⊎ ((n : Node) → a ≡ Some n → n.code ≢ Tuple) → node_may_be_tracked b ≡ node_may_be_tracked a
 node_alike None None same h = refl
-node_alike None (Some m) same h = absurd same
-node_alike (Some n) None same h = absurd same
 node_alike (Some n) (Some m) same h =
     ap (λ c. code_may_be_tracked c m.place) (ap (λ (x : Node). x.code) same)
     ∙ code_alike n.code n.place m.place (either h (λ e. inl e) (λ other. inr (other n refl)))
+node_alike a b same h = absurd same
 
 pub trackable_alike : (a b : Store) → IsSameButPlaces a b → (p : ℕ) → (same_place (place_of b p) Untracked ≡ same_place (place_of a p) Untracked)
     ⊎ ((n : Node) → fin.get a.nodes p ≡ Some n → n.code ≢ Tuple) → trackable b p ≡ trackable a p
@@ -114,14 +103,12 @@ pub record NoneLooked (store : Store) (o i before looks : ℕ) : Type 0 where
   pub looked : looks ≡ before + i
 
 value_any : (store : Store) (v : Val) → list_any (trackable store) (targets v) ≡ may_be_tracked store v
-value_any store Nothing = refl
-value_any store (Int n) = refl
-value_any store (Str n) = refl
 value_any store (Ref p) = or_none (trackable store p)
   where
     or_none : (b : Bool) → (b || false) ≡ b
     or_none true = refl
     or_none false = refl
+value_any store v = refl
 
 some_more : (store : Store) (o i : ℕ) (e : Entry) → slice_get (entries_of store o) i ≡ Some e
     → list_any (trackable store) (references (take (i + 1) (entries_of store o))) ≡ ((list_any (trackable store) (references (take i (entries_of store o)))
@@ -139,9 +126,6 @@ none_first store o = record { none = refl }
 pub none_more : (store : Store) (o i : ℕ) (e : Entry) → NoneSoFar store o i → slice_get (entries_of store o) i ≡ Some e → may_be_tracked store e.val ≡ false
     → may_be_tracked store e.key ≡ false → NoneSoFar store o (i + 1)
 none_more store o i e so at val key = record { none = some_more store o i e at ∙ (λ j. (so.none j || val j) || key j) }
-
-pub none_at_all : (store : Store) (o i : ℕ) → NoneSoFar store o i → i ≡ length (entries_of store o) → false ≡ has_tracked store o
-none_at_all store o i so is = sym so.none ∙ ap (λ es. list_any (trackable store) (references es)) (ap (λ n. take n (entries_of store o)) is ∙ take-length (entries_of store o))
 
 -- one that may be tracked is found
 any_of_more : (p : ℕ → Bool) (es : List Entry) (i : ℕ) → list_any p (references (take i es)) ≡ true → list_any p (references es) ≡ true
@@ -163,17 +147,6 @@ found_key store o i e at h =
     sym (any_of_more (trackable store) (entries_of store o) (i + 1)
     (some_more store o i e at
     ∙ or_right (list_any (trackable store) (references (take i (entries_of store o))) || may_be_tracked store e.val) (may_be_tracked store e.key) h))
-
--- the kind that the heap reports
-pub code_told : (store : Store) (o : ℕ) (told kind : KindCode) → IsLive store o → IfSome (fin.get store.nodes o) (λ n. told ≡ n.code) → told ≡ kind → HasCode store o kind
-code_told store o told kind live tells is = known (fin.get store.nodes o) refl live tells
-  where
-    known : (x : Option Node) → fin.get store.nodes o ≡ x → IsSome x → IfSome x (λ n. told ≡ n.code) → HasCode store o kind
-    known None e l t = absurd (cc)
-    known (Some n) e l t = (n, e, sym t ∙ is)
-
-pub code_untold : (store : Store) (o : ℕ) (told kind : KindCode) → IfSome (fin.get store.nodes o) (λ n. told ≡ n.code) → HasCode store o kind → told ≡ kind
-code_untold store o told kind tells (n, at, is) = let t : told ≡ n.code = subst (λ x. IfSome x (λ m. told ≡ m.code)) at tells in t ∙ is
 
 -- The pass has come to the cursor: those that it passed could not be untracked at once.
 pub record Untracking (g : ℕ) (kind : KindCode) (old now : Store) (cursor : Option ℕ) : Type 0 where
@@ -301,10 +274,6 @@ module _ (g : ℕ) (kind : KindCode) (old now : Store) (cursor : Option ℕ) (o 
           let parts : length so.back ≡ length (o ∷ passes.0) = ap length passes.1 in
           omega (arith, before, after, parts)
 
-    pub untracking_more : (new : Store) → UntracksOne o kind now new → Untracking g kind old new then
-    untracking_more new (inl (e, of_kind, none)) = subst (λ (s : Store). Untracking g kind old s then) (sym e) (untracking_one of_kind none)
-    untracking_more new (inr (e, not_one)) = subst (λ (s : Store). Untracking g kind old s then) (sym e) (untracking_passes not_one)
-
     -- for it, the pass looks at its entries
     pub untracking_looks : (new : Store) (most looks looks_now : ℕ) → UntracksOne o kind now new → looks + sum_by (λ q. length (entries_of old q)) so.back ≤
         most → looks_now ≤ looks + length (entries_of now o) → UntrackingLooked g kind old new then most looks_now
@@ -323,6 +292,14 @@ module _ (g : ℕ) (kind : KindCode) (old now : Store) (cursor : Option ℕ) (o 
     pub untracking_shorter : (new : Store) → UntracksOne o kind now new → length (ahead then (list_at new (Gen g))) < length (ahead cursor (list_at now (Gen g)))
     untracking_shorter new (inl (e, of_kind, none)) = subst (λ (s : Store). length (ahead then (list_at s (Gen g))) < length (ahead cursor (list_at now (Gen g)))) (sym e) (one_shorter of_kind none)
     untracking_shorter new (inr (e, not_one)) = subst (λ (s : Store). length (ahead then (list_at s (Gen g))) < length (ahead cursor (list_at now (Gen g)))) (sym e) (pass_shorter not_one)
+
+-- where no object has the kind, there is nothing to do
+pub untracks_none : (g : ℕ) (kind : KindCode) (store : Store) → ((o : ℕ) → ¬ (HasCode store o kind)) → Untracks g kind store store
+untracks_none g kind store none = record {
+  same = same_itself store;
+  at_least = λ o at of_kind untracked. absurd (none o of_kind);
+  at_most = λ o. inl refl;
+}
 
 pub untracking_done : (g : ℕ) (kind : KindCode) (old now : Store) (cursor : Option ℕ) → IsListed now → Untracking g kind old now cursor → cursor ≡ None → Untracks g kind old now
 untracking_done g kind old now cursor listed so is = record {

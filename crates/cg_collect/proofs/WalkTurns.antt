@@ -20,12 +20,11 @@ use Rattle.cg_heap.specs.Calls.{IsListed, IsSound}
 use Rattle.cg_heap.specs.Weak.{AreRows}
 use Rattle.cg_heap.proofs.RowLemmas.{refers_live}
 use Rattle.cg_machine.specs.World as machine
-use Rattle.cg_machine.specs.World.{World, Activity, Collecting, with_stack}
+use Rattle.cg_machine.specs.World.{World, Collecting, with_stack}
 use Rattle.cg_machine.specs.Weak.{NoneLeft, has_weak_references}
 use Rattle.cg_machine.specs.Program.{profile_of}
 use Rattle.cg_machine.specs.Collect.{is_condemned_in, loses_in_weak_phase}
 use Rattle.cg_represents.specs.Orderly.{IsOrderly}
-use Rattle.cg_represents.proofs.Representing.{in_one}
 use Rattle.cg_policy.specs.Policy.{Policy}
 use Rattle.cg_trial.specs.View.{head_of}
 use Rattle.cg_trial.proofs.Lists.{occurs, once_before}
@@ -41,7 +40,7 @@ use Rattle.cg_collect.specs.Answers.{CollectSteps}
 use Rattle.cg_collect.specs.Turns.{collection_at}
 use Rattle.cg_collect.proofs.PlacesOfObjects.{node_there, code_there, list_length}
 use Rattle.cg_collect.proofs.Moving.{comes_next}
-use Rattle.cg_collect.proofs.Worlds.{steps_at, only_tells, represents_same}
+use Rattle.cg_collect.proofs.Worlds.{steps_at, only_tells, represents_same, went}
 use Rattle.cg_collect.proofs.RowWalks.{from_on-past, from_on-first, head_highest, referent-listed, listed-referent, references-le}
 use Rattle.cg_collect.proofs.Walking.{loses_some, object_found}
 
@@ -218,23 +217,13 @@ module _ (profile : ℕ) (store : Store) (walk : IsWalk profile store None None)
       let c : machine.CollectPhase → machine.Collection = collection_of asked (collection_at facts phase_of.WeakCalling None) in
       let w : World = with_stack (Collecting (c (machine.WeakClearing pending)) ∷ below) v in
       let after : World = with_stack (Collecting (c (machine.WeakCalling pending)) ∷ below) v in
-      record {
-        events = [];
-        after = after;
-        goes = in_one script w [] after s.running (inr (
-          subst (λ p. NoneLeft (loses_in_weak_phase p w.objects) w.objects) (sym in_profile)
-              (none_left w s.orderly s.shows.represents.objects),
-          (refl, refl),
-        ));
-        lines = refl;
-        shows = record {
-          represents = represents_same store v below (c (machine.WeakClearing pending)) (c (machine.WeakCalling pending)) s.shows.represents s.alone refl (λ q. refl);
-          numbers = s.shows.numbers;
-          running = s.shows.running;
-          top = refl;
-        };
-        keeps = record { budget = refl; outcome = refl };
-      })
+      went script w [] after s.running (inr (
+        subst (λ p. NoneLeft (loses_in_weak_phase p w.objects) w.objects) (sym in_profile)
+            (none_left w s.orderly s.shows.represents.objects),
+        (refl, refl),
+      )) refl
+      (represents_same store v below (c (machine.WeakClearing pending)) (c (machine.WeakCalling pending)) s.shows.represents s.alone refl (λ q. refl))
+      s.shows.numbers s.shows.running refl refl refl)
 
 -- the lists of a heap are short
 pub list_few : (store : Store) → IsSound store → (p : Place) → length (list_at store p) ≤ 1000001

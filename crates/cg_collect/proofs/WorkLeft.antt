@@ -19,7 +19,7 @@ use Rattle.cg_graph.proofs.Members.{either, cases_of}
 use Rattle.cg_graph.proofs.Objects.{objects-changed}
 use Rattle.cg_machine.specs.Collect.{saved}
 use Rattle.cg_heap.proofs.ReferenceLemmas.{push-item}
-use Rattle.cg_trial.proofs.Lists.{none_or_some, occurrences-cons, occurs, occurs_in, sum_by-without, Includes-without}
+use Rattle.cg_trial.proofs.Lists.{none_or_some, occurrences-cons, occurs, occurs_in, sum_by-without}
 use Rattle.cg_collect.proofs.PlacesOfObjects.{map_alike, map_itself, entries_there, live_there}
 
 pub sum_alike : (f g : ℕ → ℕ) (xs : List ℕ) → ((q : ℕ) → Includes xs q → f q ≡ g q) → sum_by f xs ≡ sum_by g xs
@@ -48,11 +48,6 @@ sum-inside f ys xs one once inside = sum-within f ys xs once (λ o. fewer o (non
     fewer : (o : ℕ) → (occurrences o ys ≡ 0) ⊎ (1 ≤ occurrences o ys) → occurrences o ys ≤ occurrences o xs
     fewer o (inl none) = omega (arith, none)
     fewer o (inr some) = omega (arith, one o, occurs xs o (inside o (occurs_in ys o some)))
-
--- one has another number, the others keep theirs
-pub sum-one_other : (f g : ℕ → ℕ) (o : ℕ) (xs : List ℕ) → occurrences o xs ≡ 1 → ((q : ℕ) → q ≢ o → f q ≡ g q) → sum_by f xs + g o ≡ sum_by g xs + f o
-sum-one_other f g o xs one same =
-    omega (arith, sum-one_less f o xs one, sum-one_less g o xs one, sum_alike f g (without_serial o xs) (λ q m. same q (Includes-without o xs q m).1))
 
 -- the last of some entries
 pub last_entry-append : (xs : List Entry) (e : Entry) → last_entry (xs ++ e ∷ []) ≡ Some e

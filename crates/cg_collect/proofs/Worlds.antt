@@ -1,6 +1,6 @@
 -- Worlds with a collection on top, the machine's steps from them, and what of a heap represents them.
 use Rattle.std.proofs.Common.{◌≡◌, refl, sym, ◌∙◌, ap, subst, ℕ, ◌+◌, Bool, true, cond, inl, inr, List, [], ◌∷◌, ◌++◌, Option, None, add-zero, arith}
-use Rattle.std.specs.Prelude.{flat_map, count_by}
+use Rattle.std.specs.Prelude.{flat_map, count_by, is_some}
 use Rattle.std.proofs.lemmas.List.Sums.{sum_by-cons}
 use Rattle.cg_value.specs.declared.Place.TheVariants.{Pend}
 use Rattle.cg_script.specs.declared.Script.{Script}
@@ -13,10 +13,11 @@ use Rattle.cg_graph.proofs.Members.{either}
 use Rattle.cg_graph.proofs.Objects.{occurrences-append}
 use Rattle.cg_machine.specs.declared.event.Event.{Event}
 use Rattle.cg_machine.specs.World as machine
-use Rattle.cg_machine.specs.World.{World, Activity, Releasing, Dying, Collecting, Death, with_stack, with_objects}
+use Rattle.cg_machine.specs.World.{World, Activity, Releasing, Collecting, Running, with_stack, with_objects}
 use Rattle.cg_machine.specs.Holdings.{holds, collect_holds, is_collection}
+use Rattle.cg_machine.specs.Run.{StepOf}
 use Rattle.cg_represents.specs.Represents.{Represents, Goes, CollectionWaits}
-use Rattle.cg_represents.proofs.Representing.{Matches, represents, pushed}
+use Rattle.cg_represents.proofs.Representing.{Matches, represents, pushed, in_one}
 use Rattle.cg_death.specs.declared.release.Release.{Release}
 use Rattle.cg_death.proofs.Worlds.{at_stack, append_none}
 use Rattle.cg_policy.specs.Policy.{Policy}
@@ -25,8 +26,8 @@ use Rattle.cg_collect.specs.declared.collection.Collection.{Collection}
 use Rattle.cg_collect.specs.declared.collection.Facts.{Facts}
 use Rattle.cg_collect.specs.declared.phase.Phase.{Phase}
 use Rattle.cg_collect.specs.declared.phase.Turn.{Turn}
-use Rattle.cg_collect.specs.Phases.{on_stack, lines_left}
-use Rattle.cg_collect.specs.Answers.{CollectionStands, CollectionShows, WentOn, CollectAnswer, CollectSteps}
+use Rattle.cg_collect.specs.Phases.{machine_phase, on_stack, lines_left, store_after}
+use Rattle.cg_collect.specs.Answers.{CollectionStands, CollectionShows, WentOn, CollectAnswer, CollectSteps, numbers_at}
 use Rattle.cg_collect.specs.Turns.{collection_at, TurnSteps}
 
 -- a world is that world with its own stack
@@ -53,6 +54,21 @@ turn_steps script facts phase store policy now policy_now turn next release answ
     subst (λ (t : Turn). TurnSteps script facts phase store policy now policy_now t) (sym is)
     (subst (λ n. CollectSteps script (collection_at facts phase None) store policy (record (collection_at facts next release) { collected = n }) now policy_now
     answer) (sym (add-zero facts.collected)) steps)
+
+-- A call that made one step of the machine goes on over what that step leaves.
+pub went : {asked : Bool} {below : List Activity} {left told : List Event} {c : Collection} {store : Store} {policy : Policy}
+    → (script : Script) (w : World) (events : List Event) (after : World) → w.outcome ≡ Running → StepOf script w w.stack events after
+    → left ++ events ≡ told ++ lines_left script asked c c.phase store → Represents (store_after c.phase store) after → policy.numbers ≡ numbers_at c.phase c.generation after.numbers
+    → policy.running ≡ is_some (machine_phase c.phase []) → after.stack ≡ on_stack asked c store ++ below → after.budget ≡ w.budget → after.outcome ≡ w.outcome
+    → WentOn script asked w below left told c store policy
+went script w events after running step lines represents numbers runs top budget outcome = record {
+  events = events;
+  after = after;
+  goes = in_one script w events after running step;
+  lines = lines;
+  shows = record { represents = represents; numbers = numbers; running = runs; top = top };
+  keeps = record { budget = budget; outcome = outcome };
+}
 
 -- no step of the machine
 pub stays : (script : Script) (w : World) → Goes script w [] w

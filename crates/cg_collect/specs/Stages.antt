@@ -1,5 +1,5 @@
 -- Before, at or after each reachability pass of a collection. (Ours.)
-use Rattle.std.specs.Prelude.{◌≡◌, ◌⊎◌, ℕ, Bool, true, false, List, [], ◌∷◌, ◌++◌, Option, Some, None, flat_map}
+use Rattle.std.specs.Prelude.{◌≡◌, ◌⊎◌, ℕ, List, [], ◌∷◌, ◌++◌, Option, Some, None, flat_map}
 use Rattle.cg_collect.specs.declared.phase.Phase.{Phase}
 use Rattle.cg_collect.specs.declared.phase.Phase.TheVariants as phase_of
 use Rattle.cg_collect.specs.declared.stage.Stage.{Stage}
@@ -25,12 +25,6 @@ abbrev pub stage_at : Phase → Option Detection → Stage
 stage_at phase_of.Start detected = stage.BeforeFirst
 stage_at phase_of.Split detected = stage.BeforeSecond
 stage_at phase detected = stage_after detected
-
--- whether the next step makes a pass
-abbrev pub is_before : Stage → Bool
-is_before stage.BeforeFirst = true
-is_before stage.BeforeSecond = true
-is_before now = false
 
 -- the stage of a collection
 abbrev pub stage_of : Collection → Stage

@@ -41,6 +41,9 @@ fn untrack_kind<B: Kind, L: Ledger>(
     ensures looks { steps.new ≤ steps.old + entries_listed heap.old (Gen generation) }
 {
     heap.sound();
+    if heap.has_none(kind) {
+        return;
+    }
     let mut near = Near::default();
     let mut next = heap.first_near(Place::Gen(generation), &mut near);
     'objects: while let Some(object) = next {

@@ -26,12 +26,12 @@ use Rattle.cg_machine.specs.Dying.{death_at, call_one, call_back}
 use Rattle.cg_heap.specs.Weak.{AreRows, forgotten_weak}
 use Rattle.cg_heap.proofs.HoldLemmas.{entries_hold, outside-held, outside-rewritten}
 use Rattle.cg_heap.proofs.CallerLemmas.{lives_on, kinds-rewritten}
-use Rattle.cg_death.specs.declared.answer.DeathStep.TheVariants as answer_of
 use Rattle.cg_death.specs.declared.phase.Phase.TheVariants as phase_of
-use Rattle.cg_death.specs.Activities.{death_of, activities}
-use Rattle.cg_death.specs.Answers.{DeathStands, GaveFrame, DeathSteps}
-use Rattle.cg_death.proofs.Worlds.{steps_at}
-use Rattle.cg_represents.proofs.Representing.{Matches, represents}
+use Rattle.cg_death.specs.Activities.{death_of}
+use Rattle.cg_death.specs.Answers.{DeathStands, GaveFrame, TurnSteps}
+use Rattle.cg_death.proofs.TakingTurns.{going_on, running, turn_at}
+use Rattle.cg_death.proofs.Worlds.{gave_frame, matches-alike}
+use Rattle.cg_represents.proofs.Representing.{Matches, matches, represents}
 use Rattle.cg_represents.proofs.Lists.{occurrences-cons}
 use Rattle.cg_death.proofs.Turns.{here, steps_to, only_phase}
 use Rattle.cg_death.proofs.RowSplits.{head_in, row_of_one, split_at, referent-forgotten, waiting-other, waiting-first, left-in}
@@ -87,12 +87,11 @@ procedure-after store weak f entries refs =
     changed false (Some n) = refl
 
 -- none waits any more
-pub turn-all_called : (script : Script) (store : Store) (o : ℕ) → slice_get (waiting_in store.rows o) 0 ≡ None → DeathSteps script store
-    (activities o phase_of.Calling None store) store (activities o phase_of.LegacyFinalizer None store) answer_of.Continue
+pub turn-all_called : (script : Script) (store : Store) (o : ℕ) → slice_get (waiting_in store.rows o) 0 ≡ None → TurnSteps script store o phase_of.Calling store (going_on phase_of.LegacyFinalizer)
 turn-all_called script store o none =
     let ws : List ℕ = waiting_for store o in
     let empty : ws ≡ [] = none_first ws none in
-    steps_at script store (death_of o (Calling ws) ∷ []) store (death_of o LegacyFinalizer ∷ []) answer_of.Continue
+    turn_at script store o phase_of.Calling store (going_on phase_of.LegacyFinalizer)
     (λ v below s.
     only_phase store v o (Calling ws) below script s LegacyFinalizer
     (ap (call_one script o below (here store v o (Calling ws) below)) empty)
@@ -149,14 +148,7 @@ module _ (script : Script) (store : Store) (r : Row) (ok : AreRows store) (insid
         ∙ ap (change (object_entries []) r.weak) s.represents.objects
 
     matches-taken : Matches taken_out (here taken_out emptied o (Calling ws) below)
-    matches-taken = record {
-      objects = objects-taken;
-      next_serial = s.represents.next_serial;
-      names = s.represents.names;
-      deaths = s.represents.deaths;
-      no_others = s.represents.no_others;
-      collection = s.represents.collection;
-    }
+    matches-taken = matches-alike store taken_out.nodes w emptied.objects (matches store w s.represents) objects-taken
 
     matches-called : Matches called before
     matches-called =
@@ -188,54 +180,30 @@ module _ (script : Script) (store : Store) (r : Row) (ok : AreRows store) (insid
     callback-is = ap (λ os. callback_of os r.weak) (sym s.represents.objects) ∙ callback-at store r.weak ∙ ap callback_in callback
 
     calls : GaveFrame script w spec called (death_of o (AfterCall r.weak f rest) ∷ below)
-    calls = record {
-      hands = record {
-        before = before;
-        goes = steps_to store v o (Calling ws) below script s (start_frame script spec before).0 (start_frame script spec before).1
-            (ap (call_one script o below w) ws-are
-            ∙ ap (λ c. call_back script o r.weak (unwrap_or c 0) rest below w) callback-is
-            ∙ ap (λ sp. start_frame script sp before) spec-is);
-        top = refl;
-        represents = represents called before matches-called outside-called;
-      };
-      keeps = record { numbers = refl; budget = refl; outcome = refl };
-    }
+    calls = gave_frame spec before
+        (steps_to store v o (Calling ws) below script s (start_frame script spec before).0 (start_frame script spec before).1
+        (ap (call_one script o below w) ws-are
+        ∙ ap (λ c. call_back script o r.weak (unwrap_or c 0) rest below w) callback-is
+        ∙ ap (λ sp. start_frame script sp before) spec-is))
+        (represents called before matches-called outside-called) refl (refl, refl, refl)
 
-  row-called : (new : Store) → new ≡ called → DeathSteps script store (activities o phase_of.Calling None store) new (activities o (phase_of.AfterCall r.weak f)
-      None new) (answer_of.Frame (record { sort = Callback; proc = unwrap_or (class_in (fin.get store.nodes f)) 0; subject = r.weak; func = Some f }))
-  row-called new is =
-      steps_at script store (death_of o (Calling ws) ∷ []) new (death_of o (AfterCall r.weak f (waiting_for new o)) ∷ [])
-      (answer_of.Frame (record { sort = Callback; proc = unwrap_or (class_in (fin.get store.nodes f)) 0; subject = r.weak; func = Some f }))
-      (λ v below s.
-      subst (λ st. GaveFrame script (here store v o (Calling ws) below) (record {
-        sort = Callback;
-        proc = unwrap_or (class_in (fin.get store.nodes f)) 0;
-        subject = r.weak;
-        func = Some f;
-      }) st (death_of o (AfterCall r.weak f (waiting_for st o)) ∷ below)) (sym is)
-      (calls v below s))
+  row-called : TurnSteps script store o phase_of.Calling called (running (phase_of.AfterCall r.weak f)
+      (record { sort = Callback; proc = unwrap_or (class_in (fin.get store.nodes f)) 0; subject = r.weak; func = Some f }))
+  row-called =
+      turn_at script store o phase_of.Calling called (running (phase_of.AfterCall r.weak f)
+      (record { sort = Callback; proc = unwrap_or (class_in (fin.get store.nodes f)) 0; subject = r.weak; func = Some f })) calls
 
 -- the same by its weak reference
-module _ (script : Script) (store new : Store) (o weak f : ℕ) (ok : AreRows store) (first : slice_get (waiting_in store.rows o) 0 ≡ Some weak) where
-  abbrev found : (r : Row) × Includes store.rows r × (waits_with o r ≡ true) × (r.weak ≡ weak)
-  found = row_of_one (waits_with o) store.rows weak (head_in (waiting_in store.rows o) weak first)
-
-  abbrev row : Row
-  row = found.0
-
-  referent-is : row.referent ≡ o
-  referent-is = eqb-true row.referent o (true_and (row.referent == o) row.waits found.2).0
-
-  both : ◌≡◌ {A = ℕ × ℕ} (row.referent, row.weak) (o, weak)
-  both i = (referent-is i, found.3 i)
-
-  pub turn-called : ((q : ℕ) → 0 < inner store q → IsLive store q) → entries_of store weak ≡ item (Ref f) ∷ [] → new ≡ forgotten_weak weak (held (f ∷ []) (rewritten weak [] store))
-      → DeathSteps script store (activities o phase_of.Calling None store) new (activities o (phase_of.AfterCall weak f) None new)
-      (answer_of.Frame (record { sort = Callback; proc = unwrap_or (class_in (fin.get store.nodes f)) 0; subject = weak; func = Some f }))
-  turn-called sound =
-      subst (λ (q : ℕ × ℕ). slice_get (waiting_in store.rows q.0) 0 ≡ Some q.1 → waits_with q.0 row ≡ true → entries_of store q.1 ≡ item (Ref f) ∷ [] → new
-      ≡ forgotten_weak q.1 (held (f ∷ []) (rewritten q.1 [] store))
-      → DeathSteps script store (activities q.0 phase_of.Calling None store) new (activities q.0 (phase_of.AfterCall q.1 f) None new)
-      (answer_of.Frame (record { sort = Callback; proc = unwrap_or (class_in (fin.get store.nodes f)) 0; subject = q.1; func = Some f }))) both
-      (λ newest waits callback is. row-called script store row ok found.1 waits newest sound f callback new is)
-      first found.2
+pub turn-called : (script : Script) (store : Store) (o weak f : ℕ) → AreRows store → slice_get (waiting_in store.rows o) 0 ≡ Some weak
+    → ((q : ℕ) → 0 < inner store q → IsLive store q) → entries_of store weak ≡ item (Ref f) ∷ []
+    → TurnSteps script store o phase_of.Calling (forgotten_weak weak (held (f ∷ []) (rewritten weak [] store))) (running (phase_of.AfterCall weak f)
+    (record { sort = Callback; proc = unwrap_or (class_in (fin.get store.nodes f)) 0; subject = weak; func = Some f }))
+turn-called script store o weak f ok first sound =
+    let found = row_of_one (waits_with o) store.rows weak (head_in (waiting_in store.rows o) weak first) in
+    let row : Row = found.0 in
+    let both : ◌≡◌ {A = ℕ × ℕ} (row.referent, row.weak) (o, weak) = λ i. (eqb-true row.referent o (true_and (row.referent == o) row.waits found.2).0 i, found.3 i) in
+    subst (λ (q : ℕ × ℕ). slice_get (waiting_in store.rows q.0) 0 ≡ Some q.1 → waits_with q.0 row ≡ true → entries_of store q.1 ≡ item (Ref f) ∷ []
+    → TurnSteps script store q.0 phase_of.Calling (forgotten_weak q.1 (held (f ∷ []) (rewritten q.1 [] store))) (running (phase_of.AfterCall q.1 f)
+    (record { sort = Callback; proc = unwrap_or (class_in (fin.get store.nodes f)) 0; subject = q.1; func = Some f }))) both
+    (λ newest waits. row-called script store row ok found.1 waits newest sound f)
+    first found.2

@@ -4,12 +4,9 @@ use Rattle.std.proofs.Common.{◌≡◌, ◌≢◌, refl, sym, ◌∙◌, ap, su
 use Rattle.std.specs.Prelude.{flat_map, option_map, slice_get, is_some}
 use Rattle.std.specs.List.{All}
 use Rattle.std.specs.FinMap as fin
-use Rattle.cg_value.specs.declared.Val.TheVariants.{Ref}
-use Rattle.cg_script.specs.declared.Script.{Script}
 use Rattle.cg_graph.specs.Member.{Includes}
-use Rattle.cg_graph.specs.Value.{item}
 use Rattle.cg_graph.specs.Holdings.{occurrences}
-use Rattle.cg_graph.specs.Object.{object_at, is_in_map, entries_of as object_entries_of}
+use Rattle.cg_graph.specs.Object.{object_at, is_in_map}
 use Rattle.cg_graph.specs.Rows.{weak_references_in}
 use Rattle.cg_graph.specs.Store.{Store, Node, object_from, outside_of, IsLive, waiting_for}
 use Rattle.cg_graph.proofs.Objects.{object-at, occurrences-append}
@@ -20,11 +17,9 @@ use Rattle.cg_represents.specs.Represents.{Represents}
 use Rattle.cg_heap.specs.Weak.{AreRows}
 use Rattle.cg_heap.proofs.RowLemmas.{no_referent}
 use Rattle.cg_death.specs.declared.death.Death.{Death}
-use Rattle.cg_death.specs.Activities.{IsUnheld, HasHolds, HaveCallbacks, AreNewer}
-use Rattle.cg_death.specs.Deaths.{on_stack, held_by, IsReadyForDeath}
-use Rattle.cg_death.specs.Steady.{IsSteady}
+use Rattle.cg_death.specs.Activities.{IsUnheld, HasHolds, AreNewer}
+use Rattle.cg_death.specs.Deaths.{on_stack, held_by}
 use Rattle.cg_represents.proofs.Representing.{count-in_degree}
-use Rattle.cg_death.proofs.Emptying.{entries-agree}
 use Rattle.cg_death.proofs.WeakObjects.{weak_references-are}
 
 -- what is on top of the stack is held from outside
@@ -61,22 +56,8 @@ pub newer_in_heap : (store : Store) (w : World) → Represents store w → AreRo
     → ((v q : ℕ) → Includes waiting v → Includes (weak_references w.objects o) q → q < v) → AreNewer store o
 newer_in_heap store w r ok o waiting is newer v q waits refers = newer v q (subst (λ l. Includes l v) (sym is) waits) (subst (λ l. Includes l q) (sym (rows_of_world store w r ok o)) refers)
 
--- each waiting one has its callback
-pub callbacks_in_heap : (store : Store) (w : World) → Represents store w → (o : ℕ) (waiting : List ℕ) → waiting ≡ waiting_for store o
-    → ((q : ℕ) → Includes waiting q → (f : ℕ) × (object_entries_of w.objects q ≡ item (Ref f) ∷ [])) → HaveCallbacks store o
-callbacks_in_heap store w r o waiting is each q waits =
-    let has = each q (subst (λ l. Includes l q) (sym is) waits) in
-    (has.0, sym (ap (λ os. object_entries_of os q) (sym r.objects) ∙ entries-agree store q) ∙ has.1)
-
 -- no row refers to the object if no weak reference does and none waits
 pub no_referent_in_heap : (store : Store) (w : World) → Represents store w → AreRows store → (o : ℕ) → weak_references w.objects o ≡ [] → waiting_for store o
     ≡ [] → All (λ r. r.referent ≢ o) store.rows
 no_referent_in_heap store w r ok o none none_waits =
     no_referent store.rows o (ap (λ l. slice_get l 0) (sym (rows_of_world store w r ok o) ∙ none)) (ap (λ l. slice_get l 0) none_waits)
-
--- A steady death can take a step: it is ready, and has its holds.
-pub steady_is_ready : (script : Script) (d : Death) (store : Store) → IsSteady script d store → IsReadyForDeath d store
-steady_is_ready script d store s = (s.ready, s.during)
-
-pub steady_is_held : (script : Script) (d : Death) (store : Store) → IsSteady script d store → HasHolds store (held_by d store)
-steady_is_held script d store s = s.held

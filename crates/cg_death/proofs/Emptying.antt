@@ -20,9 +20,10 @@ use Rattle.cg_machine.specs.Dying.{empty_one, death_at}
 use Rattle.cg_death.specs.declared.release.Release.{Release}
 use Rattle.cg_death.specs.declared.answer.DeathStep.TheVariants as answer_of
 use Rattle.cg_death.specs.declared.phase.Phase.TheVariants as phase_of
-use Rattle.cg_death.specs.Activities.{death_of, activities, references_left}
-use Rattle.cg_death.specs.Answers.{DeathStands, WentOn, DeathSteps, numbers_after}
-use Rattle.cg_death.proofs.Worlds.{steps_at}
+use Rattle.cg_death.specs.Activities.{death_of, references_left}
+use Rattle.cg_death.specs.Answers.{DeathStands, WentOn, TurnSteps, numbers_after}
+use Rattle.cg_death.proofs.TakingTurns.{telling, turn_at}
+use Rattle.cg_death.proofs.Worlds.{went_to, matches-alike}
 use Rattle.cg_represents.proofs.Representing.{Matches, matches, represents, pushed}
 use Rattle.cg_death.proofs.Turns.{here, ended, waits_are, steps_to}
 use Rattle.cg_heap.proofs.ReferenceLemmas.{references-append}
@@ -91,26 +92,13 @@ module _ (script : Script) (store : Store) (v : World) (o : ℕ) (below : List A
     )
 
     matches-rewritten : Matches (rewritten o rest store) (with_stack (death_of o Emptying ∷ below) after)
-    matches-rewritten = record {
-      objects = objects-are;
-      next_serial = s.represents.next_serial;
-      names = s.represents.names;
-      deaths = s.represents.deaths;
-      no_others = s.represents.no_others;
-      collection = s.represents.collection;
-    }
+    matches-rewritten = matches-alike store (rewritten o rest store).nodes w after.objects (matches store w s.represents) objects-are
 
     pub taken : WentOn script w [] w.numbers left (Releasing (entry_references e) ∷ death_of o Emptying ∷ below)
-    taken = record {
-      goes = record {
-        after = after;
-        goes = steps_to store v o Emptying below script s [] after (ap (empty_one o below w) (ap last_entry (entries-are ∙ last) ∙ last-of rest e));
-        top = refl;
-        represents = represents left after (matches-held (entry_references e) (rewritten o rest store) after (pushed (rewritten o rest store) after
-            (entry_references e) (death_of o Emptying ∷ below) matches-rewritten)) outside-are;
-      };
-      keeps = record { numbers = refl; budget = refl; outcome = refl };
-    }
+    taken = went_to after
+        (steps_to store v o Emptying below script s [] after (ap (empty_one o below w) (ap last_entry (entries-are ∙ last) ∙ last-of rest e)))
+        (represents left after (matches-held (entry_references e) (rewritten o rest store) after (pushed (rewritten o rest store) after
+        (entry_references e) (death_of o Emptying ∷ below) matches-rewritten)) outside-are) refl (refl, refl, refl)
 
   module _ (none : count_of store o ≡ 0) (empty : entries_of store o ≡ []) where
     abbrev freed : World
@@ -137,31 +125,22 @@ module _ (script : Script) (store : Store) (v : World) (o : ℕ) (below : List A
     }
 
     pub let_go : WentOn script w (Free o ∷ []) (numbers_after (Free o) w.numbers) (gone o store) below
-    let_go = record {
-      goes = record {
-        after = freed;
-        goes = steps_to store v o Emptying below script s (Free o ∷ []) freed (ap (empty_one o below w) (ap last_entry (entries-are ∙ empty)));
-        top = refl;
-        represents = represents (gone o store) freed (ended (gone o store) freed o Emptying below (sym (waits_are store v o Emptying below (matches store w s.represents))) matches-gone) outside-left;
-      };
-      keeps = record { numbers = refl; budget = refl; outcome = refl };
-    }
+    let_go = went_to freed
+        (steps_to store v o Emptying below script s (Free o ∷ []) freed (ap (empty_one o below w) (ap last_entry (entries-are ∙ empty))))
+        (represents (gone o store) freed (ended (gone o store) freed o Emptying below (sym (waits_are store v o Emptying below (matches store w s.represents))) matches-gone) outside-left)
+        refl (refl, refl, refl)
 
-module _ (script : Script) (store new : Store) (o : ℕ) where
-  pub turn-taken : (e : Entry) (release : Release) → ((q : ℕ) → 0 < inner store q → IsLive store q) → entries_of store o ≡ without_last (entries_of store o)
-      ++ e ∷ [] → new ≡ held (entry_references e) (rewritten o (without_last (entries_of store o)) store) → references_left release ≡ entry_references e
-      → DeathSteps script store (activities o phase_of.Emptying None store) new (activities o phase_of.Emptying (Some release) new) answer_of.Continue
-  turn-taken e release sound last is refs =
-      steps_at script store (death_of o Emptying ∷ []) new (Releasing (references_left release) ∷ death_of o Emptying ∷ []) answer_of.Continue
-      (λ v below s.
-      subst (λ l. WentOn script (here store v o Emptying below) [] v.numbers new (Releasing l ∷ death_of o Emptying ∷ below)) (sym refs)
-      (subst (λ st. WentOn script (here store v o Emptying below) [] v.numbers st (Releasing (entry_references e) ∷ death_of o Emptying ∷ below)) (sym is)
-      (taken script store v o below s sound e last)))
+pub turn-taken : (script : Script) (store : Store) (o : ℕ) (e : Entry) (release : Release) → ((q : ℕ) → 0 < inner store q → IsLive store q)
+    → entries_of store o ≡ without_last (entries_of store o) ++ e ∷ [] → references_left release ≡ entry_references e
+    → TurnSteps script store o phase_of.Emptying (held (entry_references e) (rewritten o (without_last (entries_of store o)) store))
+    (record { phase = phase_of.Emptying; release = Some release; answer = answer_of.Continue })
+turn-taken script store o e release sound last refs =
+    turn_at script store o phase_of.Emptying (held (entry_references e) (rewritten o (without_last (entries_of store o)) store))
+    (record { phase = phase_of.Emptying; release = Some release; answer = answer_of.Continue })
+    (λ v below s.
+    subst (λ l. WentOn script (here store v o Emptying below) [] v.numbers (left script store v o below s sound e last) (Releasing l ∷ death_of o Emptying ∷ below)) (sym refs)
+    (taken script store v o below s sound e last))
 
-  pub turn-gone : count_of store o ≡ 0 → entries_of store o ≡ [] → new ≡ gone o store → DeathSteps script store (activities o phase_of.Emptying None store) new
-      (activities o phase_of.Over None new) (answer_of.Emit (Free o))
-  turn-gone none empty is =
-      steps_at script store (death_of o Emptying ∷ []) new [] (answer_of.Emit (Free o))
-      (λ v below s.
-      subst (λ st. WentOn script (here store v o Emptying below) (Free o ∷ []) (numbers_after (Free o) v.numbers) st below) (sym is)
-      (let_go script store v o below s none empty))
+pub turn-gone : (script : Script) (store : Store) (o : ℕ) → count_of store o ≡ 0 → entries_of store o ≡ [] → TurnSteps script store o phase_of.Emptying (gone o store) (telling (Free o) phase_of.Over)
+turn-gone script store o none empty =
+    turn_at script store o phase_of.Emptying (gone o store) (telling (Free o) phase_of.Over) (λ v below s. let_go script store v o below s none empty)

@@ -1,12 +1,11 @@
 -- A change never adds objects, and names stay.
 use Rattle.std.proofs.Common.{◌≡◌, refl, ◌∙◌, ap, ℕ, ◌≤◌, Bool, true, false, cond, not, List, [], ◌∷◌, map, length, arith}
-use Rattle.std.specs.Prelude.{◌==◌, if◌then◌else◌, filter, is_some}
+use Rattle.std.specs.Prelude.{◌==◌, if◌then◌else◌, filter}
 use Rattle.std.specs.FinMap as fin
 use Rattle.cg_value.specs.declared.Entry.{Entry}
 use Rattle.cg_value.specs.declared.Place.{Place}
 use Rattle.cg_graph.specs.Maps.{mapped, changed}
 use Rattle.cg_graph.specs.Holdings.{occurrences}
-use Rattle.cg_graph.specs.Rows.{referent_in}
 use Rattle.cg_graph.specs.Store.{Store, Node, objects_of, object_from}
 use Rattle.cg_graph.specs.Changes.{held, more, unheld, less, rewritten, with_entries, moved, with_place, gone}
 use Rattle.cg_graph.proofs.Maps.{entries-mapped}
@@ -14,7 +13,6 @@ use Rattle.cg_graph.proofs.Objects.{entries-remove}
 use Rattle.cg_heap.specs.Calls.{with_node}
 use Rattle.cg_heap.specs.Weak.{cleared_weak, forgotten_weak}
 use Rattle.cg_death.specs.Answers.{MakesNone}
-use Rattle.cg_death.specs.Deaths.{forgets_referent}
 
 -- as many objects as nodes
 length-objects : (store : Store) → length (objects_of store) ≡ length (fin.entries store.nodes)
@@ -82,13 +80,6 @@ none-cleared weak wait store = none-same store (cleared_weak weak wait store) re
 pub none-forgotten : (weak : ℕ) (store : Store) → MakesNone store (forgotten_weak weak store)
 none-forgotten weak store = none-same store (forgotten_weak weak store) refl refl
 
-pub none-forgets : (o : ℕ) (store : Store) → MakesNone store (forgets_referent o store)
-none-forgets o store = known (is_some (referent_in store.rows o))
-  where
-    known : (b : Bool) → MakesNone store (if b then cleared_weak o false store else store)
-    known true = none-cleared o false store
-    known false = record { objects = omega arith; names = refl }
-
 -- what the phases do, one change after the other
 pub none-taken : (refs : List ℕ) (o : ℕ) (es : List Entry) (store : Store) → MakesNone store (held refs (rewritten o es store))
 none-taken refs o es store = none_then store (rewritten o es store) (held refs (rewritten o es store)) (none-rewritten o es store) (none-held refs (rewritten o es store))
@@ -98,22 +89,3 @@ none-own_frame f o p store =
     none_then store (moved o p store) (held (o ∷ []) (with_node f o (moved o p store))) (none-moved o p store)
     (none_then (moved o p store) (with_node f o (moved o p store)) (held (o ∷ []) (with_node f o (moved o p store)))
     (none-changed f o (moved o p store) (with_node f o (moved o p store)) refl refl) (none-held (o ∷ []) (with_node f o (moved o p store))))
-
-pub none-legacy_frame : (o : ℕ) (p : Place) (store : Store) → MakesNone store (held (o ∷ []) (moved o p store))
-none-legacy_frame o p store = none_then store (moved o p store) (held (o ∷ []) (moved o p store)) (none-moved o p store) (none-held (o ∷ []) (moved o p store))
-
-pub none-frame_ended : (b : Bool) (o : ℕ) (p : Place) (store : Store) → MakesNone store (if b then moved o p (unheld (o ∷ []) store) else unheld (o ∷ []) store)
-none-frame_ended true o p store = none_then store (unheld (o ∷ []) store) (moved o p (unheld (o ∷ []) store)) (none-unheld (o ∷ []) store) (none-moved o p (unheld (o ∷ []) store))
-none-frame_ended false o p store = none-unheld (o ∷ []) store
-
-pub none-begun : (o : ℕ) (p : Place) (store : Store) → MakesNone store (forgets_referent o (moved o p store))
-none-begun o p store = none_then store (moved o p store) (forgets_referent o (moved o p store)) (none-moved o p store) (none-forgets o (moved o p store))
-
-pub none-lost : (b : Bool) (weak : ℕ) (store : Store) → MakesNone store (if b then cleared_weak weak true (held (weak ∷ []) store) else cleared_weak weak false store)
-none-lost true weak store = none_then store (held (weak ∷ []) store) (cleared_weak weak true (held (weak ∷ []) store)) (none-held (weak ∷ []) store) (none-cleared weak true (held (weak ∷ []) store))
-none-lost false weak store = none-cleared weak false store
-
-pub none-called : (weak callback : ℕ) (store : Store) → MakesNone store (forgotten_weak weak (held (callback ∷ []) (rewritten weak [] store)))
-none-called weak callback store =
-    none_then store (held (callback ∷ []) (rewritten weak [] store)) (forgotten_weak weak (held (callback ∷ []) (rewritten weak [] store)))
-    (none-taken (callback ∷ []) weak [] store) (none-forgotten weak (held (callback ∷ []) (rewritten weak [] store)))

@@ -1,33 +1,32 @@
 -- A death that calls nothing goes straight to its contents.
-use Rattle.std.proofs.Common.{◌≡◌, refl, sym, ◌∙◌, ap, subst, ℕ, ◌+◌, cond, Bool, true, false, inl, inr, List, [], ◌∷◌, ◌++◌, Option, Some, None, arith}
-use Rattle.std.specs.Prelude.{◌==◌, count_by, flat_map, slice_get, option_and_then, option_map, unwrap_or, if◌then◌else◌}
-use Rattle.std.proofs.lemmas.List.Sums.{sum_by-cons}
+use Rattle.std.proofs.Common.{◌≡◌, refl, sym, ◌∙◌, ap, subst, ℕ, Bool, true, false, inl, inr, List, [], ◌∷◌, ◌++◌, Option, Some, None, arith}
+use Rattle.std.specs.Prelude.{flat_map, slice_get, option_and_then, option_map, unwrap_or, if◌then◌else◌}
 use Rattle.cg_script.specs.declared.Script.{Script}
 use Rattle.cg_graph.specs.Holdings.{occurrences, name_holdings, entry_holdings, graph_of}
 use Rattle.cg_graph.specs.Object.{Object, object_at}
 use Rattle.cg_graph.specs.Store.{Store, objects_of}
 use Rattle.cg_graph.proofs.Members.{either}
 use Rattle.cg_machine.specs.Program.{finalizer_of, legacy_of}
-use Rattle.cg_machine.specs.World.{World, Activity, Death, DyingPhase, Finalizer, Clearing, Calling, LegacyFinalizer, Detaching, with_stack}
-use Rattle.cg_machine.specs.Holdings.{holdings, holds, dying_holds, is_death_of}
+use Rattle.cg_machine.specs.World.{World, Activity, Death, DyingPhase, Finalizer, Clearing, Calling, LegacyFinalizer, Detaching, Emptying, with_stack}
+use Rattle.cg_machine.specs.Holdings.{holdings, holds, dying_holds}
 use Rattle.cg_machine.specs.Frame.{Transition}
 use Rattle.cg_machine.specs.Weak.{weak_references, weak_references_if, has_weak_references}
 use Rattle.cg_machine.specs.Dying.{dying, death_at, finalizer_to_run, run_finalizer, run_legacy, clear_one, has_finalizers}
 use Rattle.cg_represents.specs.Orderly.{IsHeldInItsFramesAlone, death_waits}
 use Rattle.cg_represents.proofs.Representing.{matches, represents}
 use Rattle.cg_heap.specs.Weak.{AreRows}
-use Rattle.cg_death.specs.declared.answer.DeathStep.{DeathStep}
 use Rattle.cg_death.specs.declared.answer.DeathStep.TheVariants as answer_of
 use Rattle.cg_death.specs.declared.phase.Phase.TheVariants as phase_of
-use Rattle.cg_death.specs.Activities.{death_of, activities}
-use Rattle.cg_death.specs.Answers.{DeathStands, DeathSteps}
+use Rattle.cg_death.specs.Activities.{death_of}
+use Rattle.cg_death.specs.Answers.{DeathStands, DeathSteps, TurnSteps}
 use Rattle.cg_death.specs.Steady.{IsSteadyAt}
+use Rattle.cg_death.proofs.TakingTurns.{going_on}
 use Rattle.cg_death.proofs.Worlds.{steps_at}
 use Rattle.cg_death.proofs.Clearing.{none_first}
 use Rattle.cg_death.proofs.ClearingTurns.{turn-all_detached}
 use Rattle.cg_death.proofs.SteadyPhases.{steady-no_finalizer, steady-no_legacy}
 use Rattle.cg_death.proofs.SteadyRows.{steady-all_cleared, steady-all_called, steady-all_detached}
-use Rattle.cg_death.proofs.Steps.{first_then}
+use Rattle.cg_death.proofs.Steps.{first_then, count_again}
 use Rattle.cg_death.proofs.Turns.{here, rephased, waits_are, death}
 
 -- From one phase to another that holds as little.
@@ -52,25 +51,20 @@ module _ (script : Script) (store : Store) (o : ℕ) (p q : DyingPhase) (waits :
           (λ e. let same : death o q ≡ d = cc in subst (λ (x : Death). IsHeldInItsFramesAlone x.object x.phase (holdings (here store v o p below))) same
           (alone (holdings (here store v o p below)) (s.unheld (death o p) (inl refl))))
           (λ k. s.unheld d (inr k)));
-      once = λ x.
-          let was = s.once x in
-          let old : count_by (is_death_of x) (death_of o p ∷ below) ≡ cond {A = ℕ} (o == x) 1 0 + count_by (is_death_of x) below =
-          sum_by-cons (λ (b : Activity). cond {A = ℕ} (is_death_of x b) 1 0) (death_of o p) below in
-          let now : count_by (is_death_of x) (death_of o q ∷ below) ≡ cond {A = ℕ} (o == x) 1 0 + count_by (is_death_of x) below =
-          sum_by-cons (λ (b : Activity). cond {A = ℕ} (is_death_of x b) 1 0) (death_of o q) below in
-          omega (arith, was, old, now);
+      once = λ x. let was = s.once x in omega (arith, was, count_again x o p q below);
     }
 
   passes : ((v : World) (below : List Activity) → DeathStands store (here store v o p below) (death_of o p ∷ below)
       → dying script o p below (here store v o p below) ≡ ([], death_at o q below (here store v o p below)))
-      → (new : Store) (tops : List Activity) (answer : DeathStep) → DeathSteps script store (death_of o q ∷ []) new tops answer → DeathSteps script store (death_of o p ∷ []) new tops answer
-  passes does new tops answer steps =
-      steps_at script store (death_of o p ∷ []) new tops answer
+      → DeathSteps script store (death_of o q ∷ []) store (death_of o Emptying ∷ []) answer_of.Continue
+      → DeathSteps script store (death_of o p ∷ []) store (death_of o Emptying ∷ []) answer_of.Continue
+  passes does steps =
+      steps_at script store (death_of o p ∷ []) store (death_of o Emptying ∷ []) answer_of.Continue
       (λ v below s.
       first_then script v (death_of o p ∷ below) (death_of o q ∷ below) (
         sym (ap (λ (t : Transition). t.0) (does v below s)),
         sym (ap (λ (t : Transition). t.1) (does v below s)),
-      ) refl refl new (tops ++ below) answer s.running
+      ) refl refl store (death_of o Emptying ∷ below) answer_of.Continue s.running
       (steps (with_stack (death_of o q ∷ below) v) below (stands_on v below s)))
 
 -- An object of a class without finalizers has none to run, and its own frames made no weak references.
@@ -93,26 +87,21 @@ module _ (script : Script) (store : Store) (o : ℕ) (del : option_and_then (fin
   none_detached : slice_get (weak_references_if (has_finalizers script) (objects_of store) o) 0 ≡ None
   none_detached = ap (λ b. slice_get (if b then weak_references (objects_of store) o else []) 0) (no_finalizers script (object_at (objects_of store) o) del legacy)
 
-  pub turn-plain : DeathSteps script store (activities o phase_of.Finalizer None store) store (activities o phase_of.Emptying None store) answer_of.Continue
+  pub turn-plain : TurnSteps script store o phase_of.Finalizer store (going_on phase_of.Emptying)
   turn-plain =
       passes script store o Finalizer (Clearing []) refl refl (λ hs h. h)
       (λ v below s.
-      ap (λ os. run_finalizer script o below (here store v o Finalizer below) (option_and_then (finalizer_to_run script) (object_at os o))) (sym s.represents.objects)
-      ∙ ap (run_finalizer script o below (here store v o Finalizer below)) (none_to_run script (object_at (objects_of store) o) del))
-      store (activities o phase_of.Emptying None store) answer_of.Continue
+      ap (run_finalizer script o below (here store v o Finalizer below))
+      (ap (λ os. option_and_then (finalizer_to_run script) (object_at os o)) (sym s.represents.objects) ∙ (none_to_run script (object_at (objects_of store) o) del)))
       (passes script store o (Clearing []) (Calling []) refl refl (λ hs h. h)
       (λ v below s.
-      ap (λ os. clear_one o [] below (here store v o (Clearing []) below) (weak_references_if has_weak_references os o)) (sym s.represents.objects)
-      ∙ ap (clear_one o [] below (here store v o (Clearing []) below)) (none_first (weak_references_if has_weak_references (objects_of store) o) weak))
-      store (activities o phase_of.Emptying None store) answer_of.Continue
+      ap (clear_one o [] below (here store v o (Clearing []) below))
+      (ap (λ os. weak_references_if has_weak_references os o) (sym s.represents.objects) ∙ (none_first (weak_references_if has_weak_references (objects_of store) o) weak)))
       (passes script store o (Calling []) LegacyFinalizer refl refl (λ hs h. h)
       (λ v below s. refl)
-      store (activities o phase_of.Emptying None store) answer_of.Continue
       (passes script store o LegacyFinalizer Detaching refl refl (λ hs h. h)
       (λ v below s.
-      ap (λ os. run_legacy script o below (here store v o LegacyFinalizer below) (option_and_then (legacy_of script) (object_at os o))) (sym s.represents.objects)
-      ∙ ap (run_legacy script o below (here store v o LegacyFinalizer below)) legacy)
-      store (activities o phase_of.Emptying None store) answer_of.Continue
+      ap (run_legacy script o below (here store v o LegacyFinalizer below)) (ap (λ os. option_and_then (legacy_of script) (object_at os o)) (sym s.represents.objects) ∙ legacy))
       (turn-all_detached script store o none_detached))))
 
   pub steady-plain : AreRows store → IsSteadyAt script store o phase_of.Finalizer None → IsSteadyAt script store o phase_of.Emptying None

@@ -13,12 +13,13 @@ use Rattle.cg_graph.specs.Store.{Store, count_of, list_at, place_of}
 use Rattle.cg_graph.specs.Changes.{held, more, moved, with_place}
 use Rattle.cg_graph.proofs.Objects.{objects-same, objects-changed}
 use Rattle.cg_graph.proofs.Members.{either}
-use Rattle.cg_machine.specs.World.{World, Collecting, Collection, CollectPhase, Start, WeakClearing, WeakCalling, AfterCallback, AfterRelease, Finalizing, AfterFinalizing, Split, Turns, Turn, AfterTurn, Ending, with_change}
+use Rattle.cg_machine.specs.World.{World, Collecting, Collection, CollectPhase, WeakClearing, WeakCalling, AfterCallback, AfterRelease, with_change}
 use Rattle.cg_machine.specs.Holdings.{collect_holds}
 use Rattle.cg_represents.specs.Represents.{Represents, CollectionWaits}
 use Rattle.cg_heap.specs.Calls.{with_node, marked}
 use Rattle.cg_represents.proofs.Representing.{held_by_one, Matches}
 use Rattle.cg_represents.proofs.Lists.{occurrences-cons}
+use Rattle.cg_death.proofs.Worlds.{matches-alike}
 
 -- a list without a serial that it does not contain
 without-absent : (o : ℕ) (xs : List ℕ) → occurrences o xs ≡ 0 → without_serial o xs ≡ xs
@@ -46,14 +47,7 @@ waits-without o (AfterRelease weak waiting) pending none (inr is) =
       | inr differs ↦ inr (ap (without_serial o) is ∙ ap (λ b. cond (not b) (weak ∷ without_serial o waiting) (without_serial o waiting))
           (ne_eqb o weak differs) ∙ ap (λ l. weak ∷ l) (without-absent o waiting none))
     ]
-waits-without o Start pending none is = ap (without_serial o) is
-waits-without o Finalizing pending none is = ap (without_serial o) is
-waits-without o (AfterFinalizing x) pending none is = ap (without_serial o) is
-waits-without o Split pending none is = ap (without_serial o) is
-waits-without o Turns pending none is = ap (without_serial o) is
-waits-without o (Turn x) pending none is = ap (without_serial o) is
-waits-without o (AfterTurn x) pending none is = ap (without_serial o) is
-waits-without o Ending pending none is = ap (without_serial o) is
+waits-without o phase pending none is = ap (without_serial o) is
 
 -- a list that an object leaves, and the others
 pub left-cases : (lists : List (List ℕ)) (o p q : ℕ) → (list_of (leaves_list lists o p) q ≡ list_of lists q) ⊎ (list_of (leaves_list lists o p) q ≡ without_serial o (list_of lists q))
@@ -79,14 +73,7 @@ still-waits store w r o none new (inl e) c m = subst (CollectionWaits c.phase) (
 still-waits store w r o none new (inr e) c m = subst (CollectionWaits c.phase) (sym e) (waits-without o c.phase (list_at store Pend) (unheld_by store w r o none c m) (r.collection c m))
 
 pub matches-held : (refs : List ℕ) (store : Store) (w : World) → Matches store w → Matches (held refs store) w
-matches-held refs store w m = record {
-  objects = objects-same store (λ s n. more (occurrences s refs) n) (λ s n. refl) ∙ m.objects;
-  next_serial = m.next_serial;
-  names = m.names;
-  deaths = m.deaths;
-  no_others = m.no_others;
-  collection = m.collection;
-}
+matches-held refs store w m = matches-alike store (held refs store).nodes w w.objects m (objects-same store (λ s n. more (occurrences s refs) n) (λ s n. refl) ∙ m.objects)
 
 -- What waits in a collection, after an object moved to a place that does not exist.
 pub moved-cases : (store : Store) (o : ℕ) (q : Place) → 6 ≢ place_number q → (list_at (moved o q store) Pend ≡ list_at store Pend)
@@ -119,14 +106,8 @@ matches-moved store w o q differs r none = record {
 -- and is marked
 pub matches-marked : (store : Store) (w : World) (o : ℕ) (q : Place) → Matches store (with_change (object_placed q) o w) → Matches (with_node marked o store)
     (with_change (λ x. object_marked (object_placed q x)) o w)
-matches-marked store w o q m = record {
-  objects = objects-changed store o marked object_marked (λ s n. refl) ∙ ap (change object_marked o) m.objects ∙ change-change object_marked (object_placed q) (λ x. refl) o w.objects;
-  next_serial = m.next_serial;
-  names = m.names;
-  deaths = m.deaths;
-  no_others = m.no_others;
-  collection = m.collection;
-}
+matches-marked store w o q m = matches-alike store (with_node marked o store).nodes (with_change (object_placed q) o w) (change (λ x. object_marked (object_placed q x)) o w.objects) m
+    (objects-changed store o marked object_marked (λ s n. refl) ∙ ap (change object_marked o) m.objects ∙ change-change object_marked (object_placed q) (λ x. refl) o w.objects)
 
 pub only-one : (o q : ℕ) → 0 < occurrences q (o ∷ []) → q ≡ o
 only-one o q there = elim (cases_eq o q) [

@@ -1,12 +1,11 @@
 -- What the heap answers about weak references is true of the world.
-use Rattle.std.proofs.Common.{◌≡◌, ◌≢◌, refl, sym, ◌∙◌, ap, subst, ℕ, ◌<◌, Bool, true, false, not, ◌||◌, inl, inr, List, [], ◌∷◌, ◌++◌, length, Option, Some, None, IsSome, arith}
-use Rattle.std.specs.Prelude.{◌⊎◌, ◌==◌, ◌↔◌, IfSome, IsNone, if◌then◌else◌, is_some, unwrap_or, option_map, option_and_then, slice_get}
+use Rattle.std.proofs.Common.{◌≡◌, ◌≢◌, refl, sym, ◌∙◌, ap, subst, ℕ, ◌<◌, Bool, true, false, not, inl, inr, List, [], ◌∷◌, ◌++◌, length, Option, Some, None, IsSome, arith}
+use Rattle.std.specs.Prelude.{◌⊎◌, ◌==◌, ◌↔◌, IfSome, IsNone, if◌then◌else◌, unwrap_or, option_map, slice_get}
 use Rattle.std.proofs.lemmas.Bool.{not-true, eqb-true}
 use Rattle.std.specs.FinMap as fin
 use Rattle.cg_value.specs.declared.Entry.{Entry}
 use Rattle.cg_value.specs.declared.KindCode.{KindCode}
-use Rattle.cg_value.specs.declared.KindCode.TheVariants.{List as ListKind, Tuple, Dict, Inst, Func, Weak}
-use Rattle.cg_script.specs.declared.Script.{Script}
+use Rattle.cg_value.specs.declared.KindCode.TheVariants.{Inst, Func, Weak}
 use Rattle.cg_value.specs.declared.Val.TheVariants.{Ref}
 use Rattle.cg_graph.specs.Holdings.{occurrences}
 use Rattle.cg_graph.specs.Value.{reference_in, references, entry_references, item, without_last}
@@ -16,9 +15,7 @@ use Rattle.cg_graph.specs.Store.{Store, Node, objects_of, object_from, inner, en
 use Rattle.cg_graph.specs.Changes.{held, rewritten}
 use Rattle.cg_graph.proofs.Objects.{object-at}
 use Rattle.cg_graph.proofs.Members.{true_and}
-use Rattle.cg_machine.specs.Program.{finalizer_of, legacy_of}
 use Rattle.cg_machine.specs.Weak.{weak_references, weak_references_if, has_weak_references, callback_in}
-use Rattle.cg_machine.specs.Dying.{has_finalizers}
 use Rattle.cg_heap.specs.Weak.{AreRows}
 use Rattle.cg_heap.proofs.HoldLemmas.{entries_hold}
 use Rattle.cg_heap.proofs.CallerLemmas.{live_of_kind, lives_on, kinds-held, kinds-rewritten}
@@ -47,61 +44,27 @@ newest-is store o ok (Some w) e =
     )
 
 -- instances and functions may have weak references
-of_code : (o : Option Node) (rows : List Row) (q : ℕ) (code : KindCode) → IsSome o → IfSome o (λ n. code ≡ n.code) → (test : KindCode → Bool)
-    → ((n : Node) → has_weak_references (object_from rows q n) ≡ test n.code) → unwrap_or (option_map has_weak_references (option_map (object_from rows q) o))
-    false ≡ test code
-of_code None rows q code live is test same = cc
-of_code (Some n) rows q code live is test same = same n ∙ ap test (sym is)
+module _ (store : Store) (o : ℕ) (code : KindCode) (live : IsLive store o) (is : IfSome (fin.get store.nodes o) (λ n. code ≡ n.code)) where
+  pub supports-at : (code ≡ Inst) ⊎ (code ≡ Func) → unwrap_or (option_map has_weak_references (object_at (objects_of store) o)) false ≡ true
+  supports-at either' = ap (λ x. unwrap_or (option_map has_weak_references x) false) (object-at store o) ∙ known (fin.get store.nodes o) live is either'
+    where
+      known : (x : Option Node) → IsSome x → IfSome x (λ n. code ≡ n.code) → (code ≡ Inst) ⊎ (code ≡ Func)
+          → unwrap_or (option_map has_weak_references (option_map (object_from store.rows o) x)) false ≡ true
+      known None h e one = cc
+      known (Some n) h e (inl one) = ap (λ k. has_weak_references (object_from store.rows o (record n { code = k }))) (sym e ∙ one)
+      known (Some n) h e (inr one) = ap (λ k. has_weak_references (object_from store.rows o (record n { code = k }))) (sym e ∙ one)
 
-supports : KindCode → Bool
-supports ListKind = false
-supports Tuple = false
-supports Dict = false
-supports Inst = true
-supports Func = true
-supports Weak = false
+  pub not-supports-at : code ≢ Inst → code ≢ Func → unwrap_or (option_map has_weak_references (object_at (objects_of store) o)) false ≡ false
+  not-supports-at i f = ap (λ x. unwrap_or (option_map has_weak_references x) false) (object-at store o) ∙ known (fin.get store.nodes o) live is
+    where
+      by_kind : (n : Node) (k : KindCode) → k ≢ Inst → k ≢ Func → has_weak_references (object_from store.rows o (record n { code = k })) ≡ false
+      by_kind n Inst i f = absurd (i refl)
+      by_kind n Func i f = absurd (f refl)
+      by_kind n k i f = refl
 
-supports-is : (rows : List Row) (q : ℕ) (n : Node) (code : KindCode) → n.code ≡ code → has_weak_references (object_from rows q (record n { code = code })) ≡ supports code
-unfolding supports
-supports-is rows q n ListKind e = refl
-supports-is rows q n Tuple e = refl
-supports-is rows q n Dict e = refl
-supports-is rows q n Inst e = refl
-supports-is rows q n Func e = refl
-supports-is rows q n Weak e = refl
-
-supports-not : (code : KindCode) → code ≢ Inst → code ≢ Func → supports code ≡ false
-unfolding supports
-supports-not ListKind i f = refl
-supports-not Tuple i f = refl
-supports-not Dict i f = refl
-supports-not Inst i f = absurd (i refl)
-supports-not Func i f = absurd (f refl)
-supports-not Weak i f = refl
-
-supports-either : (code : KindCode) → (code ≡ Inst) ⊎ (code ≡ Func) → supports code ≡ true
-unfolding supports
-supports-either code (inl e) = ap supports e
-supports-either code (inr e) = ap supports e
-
-pub supports-at : (store : Store) (o : ℕ) (code : KindCode) → IsLive store o → IfSome (fin.get store.nodes o) (λ n. code ≡ n.code) → (code ≡ Inst)
-    ⊎ (code ≡ Func) → unwrap_or (option_map has_weak_references (object_at (objects_of store) o)) false ≡ true
-supports-at store o code live is either' =
-    ap (λ x. unwrap_or (option_map has_weak_references x) false) (object-at store o)
-    ∙ of_code (fin.get store.nodes o) store.rows o code live is supports (λ n. supports-is store.rows o n n.code refl)
-    ∙ supports-either code either'
-
-pub not-supports-at : (store : Store) (o : ℕ) (code : KindCode) → IsLive store o → IfSome (fin.get store.nodes o) (λ n. code ≡ n.code) → code ≢ Inst
-    → code ≢ Func → unwrap_or (option_map has_weak_references (object_at (objects_of store) o)) false ≡ false
-not-supports-at store o code live is i f =
-    ap (λ x. unwrap_or (option_map has_weak_references x) false) (object-at store o)
-    ∙ of_code (fin.get store.nodes o) store.rows o code live is supports (λ n. supports-is store.rows o n n.code refl)
-    ∙ supports-not code i f
-
-pub finalizers-test : (script : Script) (x : Option Object) → unwrap_or (option_map (has_finalizers script) x) false
-    ≡ (is_some (option_and_then (finalizer_of script) x) || is_some (option_and_then (legacy_of script) x))
-finalizers-test script None = refl
-finalizers-test script (Some x) = refl
+      known : (x : Option Node) → IsSome x → IfSome x (λ n. code ≡ n.code) → unwrap_or (option_map has_weak_references (option_map (object_from store.rows o) x)) false ≡ false
+      known None h e = cc
+      known (Some n) h e = by_kind n n.code (λ one. i (e ∙ one)) (λ one. f (e ∙ one))
 
 -- whether there is a callback, by the entries
 pub no_entry : (entries : List Entry) → length entries ≡ 0 → None ≡ callback_in entries

@@ -1,7 +1,7 @@
 -- When the heap gives up a hold, it does the machine's release step.
 use Rattle.std.proofs.Common.{◌≡◌, ◌≢◌, refl, sym, ◌∙◌, ap, subst, ℕ, ◌+◌, ◌<◌, ◌≤◌, Bool, true, false, cond, not, inl, inr, List, [], ◌∷◌, ◌++◌, arith}
 use Rattle.std.specs.Prelude.{◌==◌, ◌&&◌, flat_map, if◌then◌else◌}
-use Rattle.std.proofs.lemmas.Bool.{cases_Bool, cases_eq, eq-eqb, ne_eqb, and_from, and_right}
+use Rattle.std.proofs.lemmas.Bool.{cases_Bool, eqb-true, eq-eqb, ne_eqb, and_from, and_right}
 use Rattle.cg_script.specs.declared.Script.{Script}
 use Rattle.cg_graph.specs.Member.{Includes}
 use Rattle.cg_graph.specs.Holdings.{occurrences}
@@ -10,38 +10,25 @@ use Rattle.cg_graph.specs.Changes.{unheld, less}
 use Rattle.cg_graph.proofs.Objects.{objects-same}
 use Rattle.cg_graph.proofs.Members.{either}
 use Rattle.cg_heap.proofs.HoldLemmas.{outside-unheld}
-use Rattle.cg_machine.specs.World.{World, Activity, Releasing, Dying, Death, DyingPhase, Finalizer, AfterFinalizer, Clearing, Calling, AfterCall, LegacyFinalizer, AfterLegacy, Detaching, Emptying, with_stack}
+use Rattle.cg_machine.specs.World.{World, Activity, Releasing, Dying, Death, DyingPhase, AfterFinalizer, AfterLegacy, with_stack}
 use Rattle.cg_machine.specs.Holdings.{holdings, holds, in_degree, is_dying, dying_holds}
 use Rattle.cg_machine.specs.Frame.{Transition, begin_death}
 use Rattle.cg_represents.specs.Orderly.{IsHeldInItsFramesAlone}
 use Rattle.cg_represents.specs.Represents.{Represents, Goes}
 use Rattle.cg_death.specs.declared.answer.DeathStep.TheVariants as answer_of
-use Rattle.cg_death.specs.Answers.{DeathStands, WentOn, GaveDeath, ReleaseAnswer, ReleaseSteps}
-use Rattle.cg_death.proofs.Worlds.{at_stack, spelled}
+use Rattle.cg_death.specs.Answers.{DeathStands, WentOn, GaveDeath, ReleaseAnswer, ReleaseSteps, release_answer}
+use Rattle.cg_death.proofs.Worlds.{at_stack, spelled, went_to, matches-alike}
 use Rattle.cg_represents.proofs.Representing.{in_one, occurrences-one, count-in_degree, held_by_one, held_by_stack, death_found, Matches, matches, represents, popped, pushed}
 use Rattle.cg_represents.proofs.Lists.{occurrences-cons}
 
 pub matches-unheld : (refs : List ℕ) (store : Store) (w : World) → Matches store w → Matches (unheld refs store) w
-matches-unheld refs store w m = record {
-  objects = objects-same store (λ s n. less (occurrences s refs) n) (λ s n. refl) ∙ m.objects;
-  next_serial = m.next_serial;
-  names = m.names;
-  deaths = m.deaths;
-  no_others = m.no_others;
-  collection = m.collection;
-}
+matches-unheld refs store w m = matches-alike store (unheld refs store).nodes w w.objects m (objects-same store (λ s n. less (occurrences s refs) n) (λ s n. refl) ∙ m.objects)
 
 -- a held dying object is held by its own death, once
 held_by_death : (o : ℕ) (phase : DyingPhase) (held : List ℕ) → IsHeldInItsFramesAlone o phase held → 0 < occurrences o held → occurrences o (dying_holds o phase) ≡ 1
-held_by_death o Finalizer held h m = absurd (omega (arith, h, m))
 held_by_death o AfterFinalizer held h m = occurrences-one o
-held_by_death o (Clearing waiting) held h m = absurd (omega (arith, h, m))
-held_by_death o (Calling waiting) held h m = absurd (omega (arith, h, m))
-held_by_death o (AfterCall weak callback waiting) held h m = absurd (omega (arith, h, m))
-held_by_death o LegacyFinalizer held h m = absurd (omega (arith, h, m))
 held_by_death o AfterLegacy held h m = occurrences-one o
-held_by_death o Detaching held h m = absurd (omega (arith, h, m))
-held_by_death o Emptying held h m = absurd (omega (arith, h, m))
+held_by_death o phase held h m = absurd (omega (arith, h, m))
 
 -- A reference is given up: its object begins to die exactly if its count is now 0.
 module _ (script : Script) (store : Store) (v : World) (o : ℕ) (references : List ℕ) (below : List Activity) where
@@ -100,36 +87,24 @@ module _ (script : Script) (store : Store) (v : World) (o : ℕ) (references : L
 
     lives : in_degree after o ≢ 0 → WentOn script before [] before.numbers (unheld (o ∷ []) store) (Releasing references ∷ below)
     unfolding choice
-    lives held = record {
-      goes = record {
-        after = after;
-        goes = by_choice false (and_right (not (is_dying after o)) _ (ne_eqb _ 0 held));
-        top = refl;
-        represents = represents-after;
-      };
-      keeps = record { numbers = refl; budget = refl; outcome = refl };
-    }
+    lives held = went_to after (by_choice false (and_right (not (is_dying after o)) _ (ne_eqb _ 0 held))) represents-after refl (refl, refl, refl)
 
     -- the answer that the count decides
-    pub given_up : (new : Store) → new ≡ unheld (o ∷ []) store → ReleaseAnswer script before below new references (if count_of new o == 0 then answer_of.Died o else answer_of.Continue)
-    given_up new is = subst (λ st. ReleaseAnswer script before below st references (if count_of st o == 0 then answer_of.Died o else answer_of.Continue)) (sym is) here
+    pub given_up : (new : Store) → new ≡ unheld (o ∷ []) store → ReleaseAnswer script before below new references (release_answer (o ∷ []) new)
+    given_up new is = subst (λ st. ReleaseAnswer script before below st references (release_answer (o ∷ []) st)) (sym is) (by_count (count_of (unheld (o ∷ []) store) o == 0) refl)
       where
         count : count_of (unheld (o ∷ []) store) o ≡ in_degree after o
         count = count-in_degree (unheld (o ∷ []) store) after represents-after o
 
-        here : ReleaseAnswer script before below (unheld (o ∷ []) store) references (if count_of (unheld (o ∷ []) store) o == 0 then answer_of.Died o else answer_of.Continue)
-        here =
-            elim (cases_eq (count_of (unheld (o ∷ []) store) o) 0) [
-              | inl none ↦ subst (λ b. ReleaseAnswer script before below (unheld (o ∷ []) store) references (if b then answer_of.Died o
-                  else answer_of.Continue)) (sym (eq-eqb _ 0 none)) (died (sym count ∙ none))
-              | inr some ↦ subst (λ b. ReleaseAnswer script before below (unheld (o ∷ []) store) references (if b then answer_of.Died o
-                  else answer_of.Continue)) (sym (ne_eqb _ 0 some)) (lives (λ z. some (count ∙ z)))
-            ]
+        by_count : (b : Bool) → (count_of (unheld (o ∷ []) store) o == 0) ≡ b
+            → ReleaseAnswer script before below (unheld (o ∷ []) store) references (if b then answer_of.Died o else answer_of.Continue)
+        by_count true e = died (sym count ∙ eqb-true _ 0 e)
+        by_count false e = lives (λ z. absurd (let no : true ≡ false = sym (eq-eqb _ 0 (count ∙ z)) ∙ e in cc))
 
 -- the step of a release with a reference left
-pub gives_up : (store new : Store) (o : ℕ) (left : List ℕ) → new ≡ unheld (o ∷ []) store → ReleaseSteps store (o ∷ left) new left (if count_of new o == 0 then answer_of.Died o else answer_of.Continue)
+pub gives_up : (store new : Store) (o : ℕ) (left : List ℕ) → new ≡ unheld (o ∷ []) store → ReleaseSteps store (o ∷ left) new left (release_answer (o ∷ []) new)
 gives_up store new o left is script w below s =
-    at_stack (λ u. ReleaseAnswer script u below new left (if count_of new o == 0 then answer_of.Died o else answer_of.Continue)) w (Releasing (o ∷ left) ∷ below) s.top
+    at_stack (λ u. ReleaseAnswer script u below new left (release_answer (o ∷ []) new)) w (Releasing (o ∷ left) ∷ below) s.top
     (given_up script store w o left below (spelled store w (Releasing (o ∷ left) ∷ below) s) new is)
 
 -- an empty release ends
@@ -139,12 +114,6 @@ pops store script w below s =
     (here (spelled store w (Releasing [] ∷ below) s))
   where
     here : DeathStands store (with_stack (Releasing [] ∷ below) w) (Releasing [] ∷ below) → ReleaseAnswer script (with_stack (Releasing [] ∷ below) w) below store [] answer_of.Gone
-    here t = record {
-      goes = record {
-        after = with_stack below w;
-        goes = in_one script (with_stack (Releasing [] ∷ below) w) [] (with_stack below w) t.running (refl, refl);
-        top = refl;
-        represents = represents store (with_stack below w) (popped store w [] below (matches store (with_stack (Releasing [] ∷ below) w) t.represents)) t.represents.outside;
-      };
-      keeps = record { numbers = refl; budget = refl; outcome = refl };
-    }
+    here t = went_to (with_stack below w)
+        (in_one script (with_stack (Releasing [] ∷ below) w) [] (with_stack below w) t.running (refl, refl))
+        (represents store (with_stack below w) (popped store w [] below (matches store (with_stack (Releasing [] ∷ below) w) t.represents)) t.represents.outside) refl (refl, refl, refl)

@@ -3,8 +3,8 @@ use Rattle.std.proofs.Common.{◌≡◌, ◌≢◌, refl, sym, ◌∙◌, ap, su
 use Rattle.std.specs.Prelude.{◌⊎◌, ◌==◌, ◌&&◌, filter, find, option_map, slice_get, if◌then◌else◌}
 use Rattle.std.specs.List.{All}
 use Rattle.std.proofs.lemmas.Bool.{cases_eq, eq-eqb, ne_eqb, eqb-true}
-use Rattle.std.proofs.lemmas.List.{reverse-append}
-use Rattle.std.proofs.lemmas.List.Elements.{All-head, All-tail}
+use Rattle.std.proofs.lemmas.List.{reverse-append, map-append, append-nil}
+use Rattle.std.proofs.lemmas.List.Elements.{All-head, All-tail, filter-append}
 use Rattle.cg_graph.specs.Member.{Includes}
 use Rattle.cg_graph.specs.Rows.{Row, IsRising, referent_in, waited_in, waits_with, newest_first, waiting_in, waiting_row, with_row_waiting, without_row}
 use Rattle.cg_graph.proofs.Members.{either, Includes-append_left, Includes-append_right, Includes-append_cases, Includes-map, Includes-map_cases, Includes-filter, Includes-filter_cases}
@@ -67,23 +67,10 @@ split_at (y ∷ rows) r rise (inr m) =
       higher = rest.higher;
     }
 
-filter-append : (test : Row → Bool) (xs ys : List Row) → filter test (xs ++ ys) ≡ filter test xs ++ filter test ys
-filter-append test [] ys = refl
-filter-append test (x ∷ xs) ys = go (test x) (filter-append test xs ys)
-  where
-    go : (b : Bool) → filter test (xs ++ ys) ≡ filter test xs ++ filter test ys → cond b (x ∷ filter test (xs ++ ys)) (filter test (xs ++ ys))
-        ≡ cond b (x ∷ filter test xs) (filter test xs) ++ filter test ys
-    go true e = ap (λ l. x ∷ l) e
-    go false e = e
-
-weaks-append : (xs ys : List Row) → map (λ (r : Row). r.weak) (xs ++ ys) ≡ map (λ (r : Row). r.weak) xs ++ map (λ (r : Row). r.weak) ys
-weaks-append [] ys = refl
-weaks-append (x ∷ xs) ys = ap (λ l. x.weak ∷ l) (weaks-append xs ys)
-
 pub newest_first-append : (test : Row → Bool) (xs ys : List Row) → newest_first test (xs ++ ys) ≡ newest_first test ys ++ newest_first test xs
 newest_first-append test xs ys =
     ap (λ l. reverse (map (λ (r : Row). r.weak) l)) (filter-append test xs ys)
-    ∙ ap reverse (weaks-append (filter test xs) (filter test ys))
+    ∙ ap reverse (map-append (λ (r : Row). r.weak) (filter test xs) (filter test ys))
     ∙ reverse-append (map (λ (r : Row). r.weak) (filter test xs)) (map (λ (r : Row). r.weak) (filter test ys))
 
 -- a row that does not pass is skipped
@@ -118,10 +105,6 @@ kept_all weak (x ∷ rows) h = ap (λ b. cond (not b) (x ∷ without_row weak ro
 same_all : (weak : ℕ) (rows : List Row) → ((x : Row) → Includes rows x → x.weak ≢ weak) → with_row_waiting weak rows ≡ rows
 same_all weak [] h = refl
 same_all weak (x ∷ rows) h = λ i. (if ne_eqb x.weak weak (h x (inl refl)) i then waiting_row x else x) ∷ same_all weak rows (λ y m. h y (inr m)) i
-
-map-append : (f : Row → Row) (xs ys : List Row) → map f (xs ++ ys) ≡ map f xs ++ map f ys
-map-append f [] ys = refl
-map-append f (x ∷ xs) ys = ap (λ l. f x ∷ l) (map-append f xs ys)
 
 module _ (rows : List Row) (r : Row) (s : Split rows r) where
   front_apart : (x : Row) → Includes s.front x → x.weak ≢ r.weak
@@ -160,10 +143,9 @@ stands weak x = (x.weak == weak) && not x.waits
 apart : (weak : ℕ) (x : Row) → x.weak ≢ weak → stands weak x ≡ false
 apart weak x differs = ap (λ b. b && not x.waits) (ne_eqb x.weak weak differs)
 
-waits_apart : (b c : Bool) → c ≡ true → (b && not c) ≡ false
-waits_apart true true e = refl
-waits_apart false true e = refl
-waits_apart b false e = absurd (let x : false ≡ true = e in cc)
+both_false : (b c : Bool) → c ≡ false → (b && c) ≡ false
+both_false true c e = e
+both_false false c e = refl
 
 module _ (rows : List Row) (r : Row) (s : Split rows r) where
   no_others : (x : Row) → Includes (s.front ++ s.back) x → stands r.weak x ≡ false
@@ -200,14 +182,14 @@ module _ (rows : List Row) (r : Row) (s : Split rows r) where
   pub referent-waiting : (q : ℕ) → referent_in (with_row_waiting r.weak rows) q ≡ (if q == r.weak then None else referent_in rows q)
   referent-waiting q =
       ap (λ l. referent_in l q) (waiting-is rows r s)
-      ∙ ap (option_map (λ (x : Row). x.referent)) (find-skip (stands q) s.front (waiting_row r) s.back (waits_apart (r.weak == q) true refl))
+      ∙ ap (option_map (λ (x : Row). x.referent)) (find-skip (stands q) s.front (waiting_row r) s.back (both_false (r.weak == q) false refl))
       ∙ referent-front q
 
   -- a waiting one had no referent
   pub referent-forgotten : r.waits ≡ true → (q : ℕ) → referent_in (without_row r.weak rows) q ≡ referent_in rows q
   referent-forgotten waits q =
       ap (λ l. referent_in l q) (without-is rows r s)
-      ∙ ap (option_map (λ (x : Row). x.referent)) (sym (find-skip (stands q) s.front r s.back (waits_apart (r.weak == q) r.waits waits)))
+      ∙ ap (option_map (λ (x : Row). x.referent)) (sym (find-skip (stands q) s.front r s.back (both_false (r.weak == q) (not r.waits) (ap not waits))))
       ∙ ap (λ l. referent_in l q) (sym s.is)
 
   -- the waiting ones are the same if the row did not wait and is gone
@@ -216,10 +198,6 @@ module _ (rows : List Row) (r : Row) (s : Split rows r) where
       ap (λ l. waiting_in l o) (without-is rows r s)
       ∙ sym (newest_first-skip (waits_with o) s.front r s.back (both_false (r.referent == o) r.waits stays))
       ∙ ap (λ l. waiting_in l o) (sym s.is)
-    where
-      both_false : (b c : Bool) → c ≡ false → (b && c) ≡ false
-      both_false true c e = e
-      both_false false c e = refl
 
   -- or if it waits with another object
   pub waiting-other : (o : ℕ) → r.referent ≢ o → (waiting_in (without_row r.weak rows) o ≡ waiting_in rows o) × (r.waits ≡ false → waiting_in (with_row_waiting r.weak rows) o ≡ waiting_in rows o)
@@ -243,17 +221,9 @@ module _ (rows : List Row) (r : Row) (s : Split rows r) where
       ∙ newest_first-pass (waits_with o) s.front (waiting_row r) s.back (ap (λ b. b && true) (eq-eqb r.referent o refl))
       ∙ ap (λ l. newest_first (waits_with o) s.back ++ r.weak ∷ l) none
       ∙ ap (λ l. l ++ r.weak ∷ []) (sym (ap (λ l. waiting_in l o) s.is ∙ newest_first-skip (waits_with o) s.front r s.back
-      (ap (λ b. (r.referent == o) && b) stays ∙ no_and (r.referent == o)) ∙ newest_first-append (waits_with o) s.front s.back
-      ∙ ap (λ l. newest_first (waits_with o) s.back ++ l) none ∙ append_nothing (newest_first (waits_with o) s.back)))
+      (both_false (r.referent == o) r.waits stays) ∙ newest_first-append (waits_with o) s.front s.back
+      ∙ ap (λ l. newest_first (waits_with o) s.back ++ l) none ∙ append-nil (newest_first (waits_with o) s.back)))
     where
-      no_and : (b : Bool) → (b && false) ≡ false
-      no_and true = refl
-      no_and false = refl
-
-      append_nothing : (xs : List ℕ) → xs ++ [] ≡ xs
-      append_nothing [] = refl
-      append_nothing (x ∷ xs) = ap (λ l. x ∷ l) (append_nothing xs)
-
       older : (x : Row) → Includes s.front x → (b : Bool) → waits_with r.referent x ≡ b → waits_with r.referent x ≡ false
       older x m false e = e
       older x m true e =

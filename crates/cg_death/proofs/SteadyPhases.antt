@@ -1,6 +1,6 @@
 -- Each phase leaves a steady death.
 use Rattle.std.proofs.Common.{◌≡◌, ◌≢◌, refl, sym, ◌∙◌, ap, subst, ℕ, ◌<◌, Bool, true, false, List, [], ◌∷◌, ◌++◌, Option, Some, None, arith}
-use Rattle.std.specs.Prelude.{◌==◌, if◌then◌else◌, option_map, unwrap_or}
+use Rattle.std.specs.Prelude.{◌==◌, if◌then◌else◌, flat_map, option_map, unwrap_or}
 use Rattle.std.specs.List.{All}
 use Rattle.std.specs.Ordering.{nat_cmp}
 use Rattle.std.specs.FinMap as fin
@@ -8,7 +8,7 @@ use Rattle.cg_value.specs.declared.KindCode.{KindCode}
 use Rattle.cg_value.specs.declared.Place.{Place}
 use Rattle.cg_value.specs.declared.Place.TheVariants.{Untracked, Gen}
 use Rattle.cg_script.specs.declared.Script.{Script}
-use Rattle.cg_graph.specs.Maps.{mapped}
+use Rattle.cg_graph.specs.Maps.{mapped, changed}
 use Rattle.cg_graph.specs.Member.{Includes}
 use Rattle.cg_graph.specs.Holdings.{occurrences}
 use Rattle.cg_graph.specs.Object.{Object}
@@ -23,8 +23,10 @@ use Rattle.cg_heap.specs.Calls.{with_node, marked}
 use Rattle.cg_heap.proofs.HoldLemmas.{outside_live, outside-held}
 use Rattle.cg_heap.proofs.CallerLemmas.{lives_on, kinds-moved, kinds-with_node, kinds-unheld}
 use Rattle.cg_death.specs.declared.phase.Phase.TheVariants as phase_of
-use Rattle.cg_death.specs.Activities.{HasHolds, HaveCallbacks, IsUnheld, AreNewer}
-use Rattle.cg_death.specs.Steady.{NoneWaits, passes, RefersOnlyIf, IsSteadyAt}
+use Rattle.cg_machine.specs.Holdings.{holds}
+use Rattle.cg_death.specs.declared.phase.Phase.{Phase}
+use Rattle.cg_death.specs.Activities.{activities, HasHolds, HaveCallbacks, IsUnheld, IsReadyForDeathAt, AreNewer}
+use Rattle.cg_death.specs.Steady.{NoneWaits, passes, RefersOnlyIf, RowsFit, IsSteadyAt}
 use Rattle.cg_death.proofs.Places.{only-one}
 use Rattle.cg_death.proofs.UnheldStays.{unheld-moved}
 
@@ -77,15 +79,15 @@ none_without store o none w waits = absurd (subst (λ l. Includes l w) none wait
 nothing_held : (store : Store) (o : ℕ) → NoneWaits store o → HasHolds store (waiting_for store o ++ [])
 nothing_held store o none = subst (λ l. HasHolds store (l ++ [])) (sym none) (no_holds store)
 
+-- A death with nothing to give up above it is steady.
+pub steady_at : (script : Script) (store : Store) (o : ℕ) (phase : Phase) → IsReadyForDeathAt store o phase → HasHolds store (flat_map holds (activities o phase None store))
+    → RowsFit script store o phase → All (λ r. r.weak ≢ o) store.rows → IsSteadyAt script store o phase None
+steady_at script store o phase ready held rows others = record { ready = ready; during = tt; held = held; rows = rows; no_own_row = others }
+
 -- The finalizer has run, or there is none.
 pub steady-no_finalizer : (script : Script) (store : Store) (o : ℕ) → IsSteadyAt script store o phase_of.Finalizer None → IsSteadyAt script store o phase_of.Clearing None
-steady-no_finalizer script store o s = record {
-  ready = (s.ready, none_newer store o s.rows.0);
-  during = tt;
-  held = nothing_held store o s.rows.0;
-  rows = (none_without store o s.rows.0, s.rows.1);
-  no_own_row = s.no_own_row;
-}
+steady-no_finalizer script store o s = steady_at script store o phase_of.Clearing (s.ready, none_newer store o s.rows.0) (nothing_held store o s.rows.0)
+    (none_without store o s.rows.0, s.rows.1) s.no_own_row
 
 -- what refers to it after it moved, and after holds are taken or given up
 only-held : (test : Object → Bool) → IsByKind test → (refs : List ℕ) (store : Store) (o : ℕ) → RefersOnlyIf test store o → RefersOnlyIf test (held refs store) o
@@ -96,29 +98,21 @@ pub only-unheld : (test : Object → Bool) → IsByKind test → (refs : List �
 only-unheld test by_kind refs store o = only_if test store (unheld refs store) o (passes-mapped test by_kind (λ s n. less (occurrences s refs) n) (λ s n. refl)
     (λ s n. refl) store (unheld refs store) refl o) refl
 
-pub only-moved : (test : Object → Bool) → IsByKind test → (p : Place) (store : Store) (o : ℕ) → RefersOnlyIf test store o → RefersOnlyIf test (moved o p store) o
-only-moved test by_kind p store o = only_if test store (moved o p store) o (passes-mapped test by_kind (λ s n. if s == o then with_place p n else n)
-    (λ s n. code (s == o) n) (λ s n. class (s == o) n) store (moved o p store) refl o) refl
+only-changed : (test : Object → Bool) → IsByKind test → (f : Node → Node) → ((n : Node) → (f n).code ≡ n.code) → ((n : Node) → (f n).class ≡ n.class) → (old new : Store) (o : ℕ)
+    → new.nodes ≡ changed f o old.nodes → new.rows ≡ old.rows → RefersOnlyIf test old o → RefersOnlyIf test new o
+only-changed test by_kind f codes classes old new o is rows =
+    only_if test old new o (passes-mapped test by_kind (λ s n. if s == o then f n else n) (λ s n. kept (λ n. n.code) codes (s == o) n)
+    (λ s n. kept (λ n. n.class) classes (s == o) n) old new is o) rows
   where
-    code : (b : Bool) (n : Node) → (if b then with_place p n else n).code ≡ n.code
-    code true n = refl
-    code false n = refl
+    kept : {X : Type 0} (pick : Node → X) → ((n : Node) → pick (f n) ≡ pick n) → (b : Bool) (n : Node) → pick (if b then f n else n) ≡ pick n
+    kept pick same true n = same n
+    kept pick same false n = refl
 
-    class : (b : Bool) (n : Node) → (if b then with_place p n else n).class ≡ n.class
-    class true n = refl
-    class false n = refl
+pub only-moved : (test : Object → Bool) → IsByKind test → (p : Place) (store : Store) (o : ℕ) → RefersOnlyIf test store o → RefersOnlyIf test (moved o p store) o
+only-moved test by_kind p store o = only-changed test by_kind (with_place p) (λ n. refl) (λ n. refl) store (moved o p store) o refl refl
 
 only-marked : (test : Object → Bool) → IsByKind test → (store : Store) (o : ℕ) → RefersOnlyIf test store o → RefersOnlyIf test (with_node marked o store) o
-only-marked test by_kind store o = only_if test store (with_node marked o store) o (passes-mapped test by_kind (λ s n. if s == o then marked n else n)
-    (λ s n. code (s == o) n) (λ s n. class (s == o) n) store (with_node marked o store) refl o) refl
-  where
-    code : (b : Bool) (n : Node) → (if b then marked n else n).code ≡ n.code
-    code true n = refl
-    code false n = refl
-
-    class : (b : Bool) (n : Node) → (if b then marked n else n).class ≡ n.class
-    class true n = refl
-    class false n = refl
+only-marked test by_kind store o = only-changed test by_kind marked (λ n. refl) (λ n. refl) store (with_node marked o store) o refl refl
 
 -- a living object, held once more
 own_hold : (store : Store) (o : ℕ) → IsLive store o → HasHolds (held (o ∷ []) store) (o ∷ [])
@@ -131,38 +125,21 @@ steady-finalizer script store o s =
     let placed : Store = moved o (Gen 0) store in
     let ready : Store = with_node marked o placed in
     let live : IsLive ready o = lives_on placed ready (kinds-with_node marked (λ n. refl) o placed) o (lives_on store placed (kinds-moved o (Gen 0) store) o s.ready.live) in
-    record {
-      ready = tt;
-      during = tt;
-      held = own_hold ready o live;
-      rows = (
-        s.rows.0,
-        only-held has_weak_references weak_references_by_kind (o ∷ []) ready o (only-marked has_weak_references weak_references_by_kind placed o
-            (only-moved has_weak_references weak_references_by_kind (Gen 0) store o s.rows.1)),
-      );
-      no_own_row = s.no_own_row;
-    }
+    steady_at script (held (o ∷ []) ready) o phase_of.AfterFinalizer tt (own_hold ready o live) (
+      s.rows.0,
+      only-held has_weak_references weak_references_by_kind (o ∷ []) ready o (only-marked has_weak_references weak_references_by_kind placed o
+          (only-moved has_weak_references weak_references_by_kind (Gen 0) store o s.rows.1)),
+    ) s.no_own_row
 
 pub steady-legacy : (script : Script) (store : Store) (o : ℕ) → IsSteadyAt script store o phase_of.LegacyFinalizer None
     → IsSteadyAt script (held (o ∷ []) (moved o (Gen 0) store)) o phase_of.AfterLegacy None
 steady-legacy script store o s =
     let placed : Store = moved o (Gen 0) store in
-    record {
-      ready = tt;
-      during = tt;
-      held = own_hold placed o (lives_on store placed (kinds-moved o (Gen 0) store) o s.ready.live);
-      rows = (s.rows.0, λ fails. s.rows.1);
-      no_own_row = s.no_own_row;
-    }
+    steady_at script (held (o ∷ []) placed) o phase_of.AfterLegacy tt
+    (own_hold placed o (lives_on store placed (kinds-moved o (Gen 0) store) o s.ready.live)) (s.rows.0, λ fails. s.rows.1) s.no_own_row
 
 pub steady-no_legacy : (script : Script) (store : Store) (o : ℕ) → IsSteadyAt script store o phase_of.LegacyFinalizer None → IsSteadyAt script store o phase_of.Detaching None
-steady-no_legacy script store o s = record {
-  ready = s.ready;
-  during = tt;
-  held = no_holds store;
-  rows = (s.rows.0, λ fails. s.rows.1);
-  no_own_row = s.no_own_row;
-}
+steady-no_legacy script store o s = steady_at script store o phase_of.Detaching s.ready (no_holds store) (s.rows.0, λ fails. s.rows.1) s.no_own_row
 
 -- The hold of its own frame is given up, and the object is unheld,
 ended_ready : (store : Store) (o : ℕ) → IsLive store o → count_of (unheld (o ∷ []) store) o ≡ 0 → IsUnheld (moved o Untracked (unheld (o ∷ []) store)) o
@@ -175,26 +152,17 @@ pub steady-frame_ended : (script : Script) (store : Store) (o : ℕ) → 0 < out
     phase_of.AfterFinalizer None → IsSteadyAt script (moved o Untracked (unheld (o ∷ []) store)) o phase_of.Clearing None
 steady-frame_ended script store o has none s =
     let new : Store = moved o Untracked (unheld (o ∷ []) store) in
-    record {
-      ready = (ended_ready store o (outside_live store o has) none, none_newer new o s.rows.0);
-      during = tt;
-      held = nothing_held new o s.rows.0;
-      rows = (none_without new o s.rows.0, ended_only has_weak_references weak_references_by_kind store o s.rows.1);
-      no_own_row = s.no_own_row;
-    }
+    steady_at script new o phase_of.Clearing (ended_ready store o (outside_live store o has) none, none_newer new o s.rows.0)
+    (nothing_held new o s.rows.0) (none_without new o s.rows.0, ended_only has_weak_references weak_references_by_kind store o s.rows.1)
+    s.no_own_row
 
 pub steady-legacy_ended : (script : Script) (store : Store) (o : ℕ) → 0 < outside_of store o → count_of (unheld (o ∷ []) store) o ≡ 0 → IsSteadyAt script store
     o phase_of.AfterLegacy None → IsSteadyAt script (moved o Untracked (unheld (o ∷ []) store)) o phase_of.Detaching None
 steady-legacy_ended script store o has none s =
     let new : Store = moved o Untracked (unheld (o ∷ []) store) in
-    record {
-      ready = ended_ready store o (outside_live store o has) none;
-      during = tt;
-      held = no_holds new;
-      rows = (s.rows.0, ended_only (has_finalizers script) (finalizers_by_kind script) store o s.rows.1);
-      no_own_row = s.no_own_row;
-    }
+    steady_at script new o phase_of.Detaching (ended_ready store o (outside_live store o has) none) (no_holds new)
+    (s.rows.0, ended_only (has_finalizers script) (finalizers_by_kind script) store o s.rows.1) s.no_own_row
 
 -- or it was resurrected, and the death is over.
 pub steady-over : (script : Script) (store : Store) (o : ℕ) → All (λ r. r.weak ≢ o) store.rows → IsSteadyAt script store o phase_of.Over None
-steady-over script store o others = record { ready = tt; during = tt; held = no_holds store; rows = tt; no_own_row = others }
+steady-over script store o = steady_at script store o phase_of.Over tt (no_holds store) tt

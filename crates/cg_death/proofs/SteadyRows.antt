@@ -2,7 +2,7 @@
 use Rattle.std.proofs.Common.{◌≡◌, ◌≢◌, refl, sym, ◌∙◌, ap, subst, ℕ, ◌≤◌, Bool, true, false, cond, not, inr, List, [], ◌∷◌, ◌++◌, length, Some, None, arith}
 use Rattle.std.specs.Prelude.{◌==◌, ◌&&◌, if◌then◌else◌, is_some, slice_get}
 use Rattle.std.specs.List.{All}
-use Rattle.std.proofs.lemmas.Bool.{not-true, eqb-true, eq-eqb, ne_eqb}
+use Rattle.std.proofs.lemmas.Bool.{eqb-true, eq-eqb, ne_eqb}
 use Rattle.std.proofs.lemmas.List.Elements.{All-head}
 use Rattle.std.specs.FinMap as fin
 use Rattle.cg_value.specs.declared.Entry.{Entry}
@@ -40,10 +40,10 @@ use Rattle.cg_death.proofs.Callbacks.{callback-at}
 use Rattle.cg_death.proofs.WorkLeft.{entries-held, entries-unheld}
 use Rattle.cg_death.proofs.Querying.{newest-waits}
 use Rattle.cg_death.proofs.RowSplits.{all_in, row_of_one, one_of_row, head_in, split_at, waiting-without, waiting-more, waiting-first, left-in}
-use Rattle.cg_death.proofs.WeakObjects.{row_there, weak_references-are}
+use Rattle.cg_death.proofs.WeakObjects.{referring_row, weak_references-are}
 use Rattle.cg_death.proofs.RowsLeft.{fewer_in, none_of_fewer, all_left, others_waiting, newest_is_greatest, refers_before}
 use Rattle.cg_death.proofs.UnheldStays.{unheld-unheld, unheld-held, unheld-rewritten, held_by_none}
-use Rattle.cg_death.proofs.SteadyPhases.{weak_references_by_kind, passes-mapped, passes-same, no_holds, steady-over}
+use Rattle.cg_death.proofs.SteadyPhases.{weak_references_by_kind, passes-mapped, passes-same, no_holds, steady_at, steady-over}
 
 -- No weak reference that may refer to it is left.
 none_refers : (test : Object → Bool) (store : Store) (o : ℕ) → AreRows store → slice_get (weak_references_if test (objects_of store) o) 0 ≡ None → RefersOnlyIf test store o → NoneRefers store o
@@ -64,35 +64,26 @@ newest_in_rows test store o weak ok newest = known (passes test store o) refl
     known false e = let nothing : slice_get [] 0 ≡ Some weak = ap (λ b. slice_get (if b then weak_references (objects_of store) o else []) 0) (sym e) ∙ newest in absurd (cc)
 
 module _ (store : Store) (o weak : ℕ) (ok : AreRows store) (refers : referent_in store.rows weak ≡ Some o) where
-  abbrev row : Row
-  row = (row_there store.rows weak o refers).0
-
-  inside : Includes store.rows row
-  inside = (row_there store.rows weak o refers).1
-
-  stays : row.waits ≡ false
-  stays = not-true row.waits (true_and (row.referent == o) (not row.waits) (row_there store.rows weak o refers).2).1
-
-  both : ◌≡◌ {A = ℕ × ℕ} (row.referent, row.weak) (o, weak)
-  both i = (eqb-true row.referent o (true_and (row.referent == o) (not row.waits) (row_there store.rows weak o refers).2).0 i, (row_there store.rows weak o refers).3 i)
+  abbrev found : (r : Row) × Includes store.rows r × (r.waits ≡ false) × ◌≡◌ {A = ℕ × ℕ} (r.referent, r.weak) (o, weak)
+  found = referring_row store.rows weak o refers
 
   refers_in : Includes (weak_references_in store.rows o) weak
-  refers_in = subst (λ (q : ℕ × ℕ). Includes (weak_references_in store.rows q.0) q.1) both (one_of_row (refers_to row.referent) store.rows row inside
-      (λ i. eq-eqb row.referent row.referent refl i && not (stays i)))
+  refers_in = subst (λ (q : ℕ × ℕ). Includes (weak_references_in store.rows q.0) q.1) found.3 (one_of_row (refers_to found.0.referent) store.rows found.0 found.1
+      (λ i. eq-eqb found.0.referent found.0.referent refl i && not (found.2 i)))
 
   -- it is another object
   is_other : All (λ r. r.weak ≢ o) store.rows → weak ≢ o
-  is_other others same = all_in (λ (r : Row). r.weak ≢ o) store.rows row others inside ((row_there store.rows weak o refers).3 ∙ same)
+  is_other others same = all_in (λ (r : Row). r.weak ≢ o) store.rows found.0 others found.1 (ap (λ (q : ℕ × ℕ). q.1) found.3 ∙ same)
 
   -- the waiting ones after it waits, and after it is gone
   waits_now : AreNewer store o → waiting_in (with_row_waiting weak store.rows) o ≡ waiting_in store.rows o ++ weak ∷ []
-  waits_now = subst (λ (q : ℕ × ℕ). AreNewer store q.0 → waiting_in (with_row_waiting q.1 store.rows) q.0 ≡ waiting_in store.rows q.0 ++ q.1 ∷ []) both
-      (λ newer. waiting-more store.rows row (split_at store.rows row ok.rise inside) stays
-      (λ v i. newer v row.weak i (subst (λ (q : ℕ × ℕ). Includes (weak_references_in store.rows q.0) q.1) (sym both) refers_in)))
+  waits_now = subst (λ (q : ℕ × ℕ). AreNewer store q.0 → waiting_in (with_row_waiting q.1 store.rows) q.0 ≡ waiting_in store.rows q.0 ++ q.1 ∷ []) found.3
+      (λ newer. waiting-more store.rows found.0 (split_at store.rows found.0 ok.rise found.1) found.2
+      (λ v i. newer v found.0.weak i (subst (λ (q : ℕ × ℕ). Includes (weak_references_in store.rows q.0) q.1) (sym found.3) refers_in)))
 
   pub waits_still : waiting_in (without_row weak store.rows) o ≡ waiting_in store.rows o
-  waits_still = subst (λ (q : ℕ × ℕ). waiting_in (without_row q.1 store.rows) q.0 ≡ waiting_in store.rows q.0) both
-      (waiting-without store.rows row (split_at store.rows row ok.rise inside) stays row.referent)
+  waits_still = subst (λ (q : ℕ × ℕ). waiting_in (without_row q.1 store.rows) q.0 ≡ waiting_in store.rows q.0) found.3
+      (waiting-without store.rows found.0 (split_at store.rows found.0 ok.rise found.1) found.2 found.0.referent)
 
   -- an object that it refers to may have weak references
   may_have : (test : Object → Bool) (new : Store) → passes test new o ≡ passes test store o → RefersOnlyIf test store o → RefersOnlyIf test new o
@@ -105,9 +96,7 @@ callback_there (e ∷ []) items few has = known e.val refl has
   where
     known : (v : Val) → e.val ≡ v → is_some (reference_in e.val) ≡ true → (f : ℕ) × (e ∷ [] ≡ item (val.Ref f) ∷ [])
     known (val.Ref f) is some = (f, λ i. record { key = All-head (λ (x : Entry). x.key ≡ val.None) e [] items i; val = is i } ∷ [])
-    known val.None is some = absurd (let no : false ≡ true = ap (λ v. is_some (reference_in v)) (sym is) ∙ some in cc)
-    known (val.Int k) is some = absurd (let no : false ≡ true = ap (λ v. is_some (reference_in v)) (sym is) ∙ some in cc)
-    known (val.Str n) is some = absurd (let no : false ≡ true = ap (λ v. is_some (reference_in v)) (sym is) ∙ some in cc)
+    known v is some = absurd (let no : false ≡ true = ap (λ v. is_some (reference_in v)) (sym is) ∙ some in cc)
 callback_there (e ∷ x ∷ es) items few has = absurd (omega (arith, few))
 
 has_callback : (store : Store) (weak : ℕ) → ((s : ℕ) → IsWellMadeAt (fin.get store.nodes s)) → HasCode store weak Weak → is_some (callback_of (objects_of store) weak) ≡ true → HasCallback store weak
@@ -124,13 +113,8 @@ not_in_one o weak differs = let none : cond {A = ℕ} (weak == o) 1 0 ≡ 0 = ap
 -- None is left to clear.
 pub steady-all_cleared : (script : Script) (store : Store) (o : ℕ) → AreRows store → slice_get (weak_references_if has_weak_references (objects_of store) o) 0
     ≡ None → IsSteadyAt script store o phase_of.Clearing None → IsSteadyAt script store o phase_of.Calling None
-steady-all_cleared script store o ok none s = record {
-  ready = (s.ready.0, s.rows.0);
-  during = tt;
-  held = s.held;
-  rows = (s.rows.0, none_refers has_weak_references store o ok none s.rows.1);
-  no_own_row = s.no_own_row;
-}
+steady-all_cleared script store o ok none s = steady_at script store o phase_of.Calling (s.ready.0, s.rows.0) s.held (s.rows.0, none_refers has_weak_references store o ok none s.rows.1)
+    s.no_own_row
 
 -- The newest is cleared. With a callback it then waits; without one its row is gone.
 module _ (script : Script) (store : Store) (o weak : ℕ) (sound : IsSound store) (refers : referent_in store.rows weak ≡ Some o) where
@@ -149,60 +133,49 @@ module _ (script : Script) (store : Store) (o weak : ℕ) (sound : IsSound store
       let now : waiting_in (with_row_waiting weak store.rows) o ≡ waiting_in store.rows o ++ weak ∷ [] = waits_now store o weak sound.rows refers s.ready.1 in
       let once_held = unheld-held store o s.ready.0 (weak ∷ []) (not_in_one o weak (is_other store o weak sound.rows refers s.no_own_row)) in
       let code = refers_live store sound.rows weak o refers in
-      record {
-        ready = (
-          record { live = once_held.live; none = once_held.none },
-          λ v w waits refers_still.
-              let before = refers_before o weak store.rows w refers_still in
-              either (Includes-append_cases (waiting_in store.rows o) (weak ∷ []) v (subst (λ l. Includes l v) now waits))
-              (λ k. s.ready.1 v w k before.0)
-              (λ k. either k
-              (λ e. let most = newest_is_greatest (refers_to o) store.rows weak w sound.rows.rise (newest_in_rows has_weak_references store o weak sound.rows newest) before.0 in
-              let other = before.1 in omega (arith, most, other, e))
-              (λ n. absurd n)),
-        );
-        during = tt;
-        held = λ q.
-            let is : occurrences q (waiting_in (with_row_waiting weak store.rows) o ++ []) ≡ occurrences q ((waiting_in store.rows o ++ weak ∷ []) ++ []) = ap (λ l. occurrences q (l ++ [])) now in
-            let was = s.held q in
-            omega (
-              arith,
-              is,
-              was,
-              outside-held (weak ∷ []) store q (λ h. subst (IsLive store) (sym (Rattle.cg_death.proofs.Places.only-one weak q h))
-                  (Rattle.cg_heap.proofs.CallerLemmas.live_of_kind store weak Weak code.0)),
-              occurrences-append q (waiting_in store.rows o ++ weak ∷ []) [],
-              occurrences-append q (waiting_in store.rows o) (weak ∷ []),
-              occurrences-append q (waiting_in store.rows o) [],
-            );
-        rows = (
-          λ w waits. either (Includes-append_cases (waiting_in store.rows o) (weak ∷ []) w (subst (λ l. Includes l w) now waits))
-              (λ k. let had = s.rows.0 w k in (had.0, entries-held (weak ∷ []) store w ∙ had.1))
-              (λ k. either k
-              (λ e. subst (HasCallback waiting_store) e (let had = has_callback store weak sound.well code.0 has in (had.0, entries-held (weak ∷ []) store weak ∙ had.1)))
-              (λ n. absurd n)),
-          may_have store o weak sound.rows refers has_weak_references waiting_store (passes-mapped has_weak_references weak_references_by_kind
-              (λ q n. more (occurrences q (weak ∷ [])) n) (λ q n. refl) (λ q n. refl) store waiting_store refl o) s.rows.1,
-        );
-        no_own_row = others_waiting o weak store.rows s.no_own_row;
-      }
+      steady_at script waiting_store o phase_of.Clearing (
+        record { live = once_held.live; none = once_held.none },
+        λ v w waits refers_still.
+            let before = refers_before o weak store.rows w refers_still in
+            either (Includes-append_cases (waiting_in store.rows o) (weak ∷ []) v (subst (λ l. Includes l v) now waits))
+            (λ k. s.ready.1 v w k before.0)
+            (λ k. either k
+            (λ e. let most = newest_is_greatest (refers_to o) store.rows weak w sound.rows.rise (newest_in_rows has_weak_references store o weak sound.rows newest) before.0 in
+            let other = before.1 in omega (arith, most, other, e))
+            (λ n. absurd n)),
+      )
+      (λ q.
+      let is : occurrences q (waiting_in (with_row_waiting weak store.rows) o ++ []) ≡ occurrences q ((waiting_in store.rows o ++ weak ∷ []) ++ []) = ap (λ l. occurrences q (l ++ [])) now in
+      let was = s.held q in
+      omega (
+        arith,
+        is,
+        was,
+        outside-held (weak ∷ []) store q (λ h. subst (IsLive store) (sym (Rattle.cg_death.proofs.Places.only-one weak q h))
+            (Rattle.cg_heap.proofs.CallerLemmas.live_of_kind store weak Weak code.0)),
+        occurrences-append q (waiting_in store.rows o ++ weak ∷ []) [],
+        occurrences-append q (waiting_in store.rows o) (weak ∷ []),
+        occurrences-append q (waiting_in store.rows o) [],
+      )) (
+        λ w waits. either (Includes-append_cases (waiting_in store.rows o) (weak ∷ []) w (subst (λ l. Includes l w) now waits))
+            (λ k. let had = s.rows.0 w k in (had.0, entries-held (weak ∷ []) store w ∙ had.1))
+            (λ k. either k
+            (λ e. subst (HasCallback waiting_store) e (let had = has_callback store weak sound.well code.0 has in (had.0, entries-held (weak ∷ []) store weak ∙ had.1)))
+            (λ n. absurd n)),
+        may_have store o weak sound.rows refers has_weak_references waiting_store (passes-mapped has_weak_references weak_references_by_kind
+            (λ q n. more (occurrences q (weak ∷ [])) n) (λ q n. refl) (λ q n. refl) store waiting_store refl o) s.rows.1,
+      ) (others_waiting o weak store.rows s.no_own_row)
 
   steady-lost : IsSteadyAt script store o phase_of.Clearing None → IsSteadyAt script lost_store o phase_of.Clearing None
   steady-lost s =
       let still : waiting_in (without_row weak store.rows) o ≡ waiting_in store.rows o = waits_still store o weak sound.rows refers in
-      record {
-        ready = (
-          lost_unheld s.ready.0,
-          λ v w waits refers_still. s.ready.1 v w (subst (λ l. Includes l v) still waits) (fewer_in (refers_to o) store.rows (without_row weak store.rows) (left-in weak store.rows) w refers_still),
-        );
-        during = tt;
-        held = λ q. subst (λ l. occurrences q (l ++ []) ≤ outside_of store q) (sym still) (s.held q);
-        rows = (
-          λ w waits. s.rows.0 w (subst (λ l. Includes l w) still waits),
-          may_have store o weak sound.rows refers has_weak_references lost_store (passes-same has_weak_references weak_references_by_kind store lost_store refl o) s.rows.1,
-        );
-        no_own_row = all_left (λ r. r.weak ≢ o) weak store.rows s.no_own_row;
-      }
+      steady_at script lost_store o phase_of.Clearing (
+        lost_unheld s.ready.0,
+        λ v w waits refers_still. s.ready.1 v w (subst (λ l. Includes l v) still waits) (fewer_in (refers_to o) store.rows (without_row weak store.rows) (left-in weak store.rows) w refers_still),
+      ) (λ q. subst (λ l. occurrences q (l ++ []) ≤ outside_of store q) (sym still) (s.held q)) (
+        λ w waits. s.rows.0 w (subst (λ l. Includes l w) still waits),
+        may_have store o weak sound.rows refers has_weak_references lost_store (passes-same has_weak_references weak_references_by_kind store lost_store refl o) s.rows.1,
+      ) (all_left (λ r. r.weak ≢ o) weak store.rows s.no_own_row)
 
   pub steady-cleared : (b : Bool) → is_some (callback_of (objects_of store) weak) ≡ b → slice_get (weak_references_if has_weak_references (objects_of store) o)
       0 ≡ Some weak → IsSteadyAt script store o phase_of.Clearing None
@@ -212,42 +185,24 @@ module _ (script : Script) (store : Store) (o weak : ℕ) (sound : IsSound store
 
   -- One that its own frames made is cleared.
   pub steady-detached : IsSteadyAt script store o phase_of.Detaching None → IsSteadyAt script lost_store o phase_of.Detaching None
-  steady-detached s = record {
-    ready = lost_unheld s.ready;
-    during = tt;
-    held = no_holds lost_store;
-    rows = (
-      waits_still store o weak sound.rows refers ∙ s.rows.0,
-      may_have store o weak sound.rows refers (has_finalizers script) lost_store (passes-same (has_finalizers script)
-          (Rattle.cg_death.proofs.SteadyPhases.finalizers_by_kind script) store lost_store refl o) s.rows.1,
-    );
-    no_own_row = all_left (λ r. r.weak ≢ o) weak store.rows s.no_own_row;
-  }
+  steady-detached s = steady_at script lost_store o phase_of.Detaching (lost_unheld s.ready) (no_holds lost_store) (
+    waits_still store o weak sound.rows refers ∙ s.rows.0,
+    may_have store o weak sound.rows refers (has_finalizers script) lost_store (passes-same (has_finalizers script)
+        (Rattle.cg_death.proofs.SteadyPhases.finalizers_by_kind script) store lost_store refl o) s.rows.1,
+  ) (all_left (λ r. r.weak ≢ o) weak store.rows s.no_own_row)
 
 pub steady-all_detached : (script : Script) (store : Store) (o : ℕ) → AreRows store → slice_get (weak_references_if (has_finalizers script) (objects_of store)
     o) 0 ≡ None → IsSteadyAt script store o phase_of.Detaching None → IsSteadyAt script store o phase_of.Emptying None
-steady-all_detached script store o ok none s = record {
-  ready = (
-    s.ready,
-    in_no_row store.rows o s.no_own_row (no_referent store.rows o (ap (λ l. slice_get l 0) (none_refers (has_finalizers script) store o ok none
-        s.rows.1)) (ap (λ l. slice_get l 0) s.rows.0)),
-  );
-  during = tt;
-  held = no_holds store;
-  rows = tt;
-  no_own_row = s.no_own_row;
-}
+steady-all_detached script store o ok none s = steady_at script store o phase_of.Emptying (
+  s.ready,
+  in_no_row store.rows o s.no_own_row (no_referent store.rows o (ap (λ l. slice_get l 0) (none_refers (has_finalizers script) store o ok none
+      s.rows.1)) (ap (λ l. slice_get l 0) s.rows.0)),
+) (no_holds store) tt s.no_own_row
 
 -- No callback is left to call.
 pub steady-all_called : (script : Script) (store : Store) (o : ℕ) → slice_get (waiting_in store.rows o) 0 ≡ None → IsSteadyAt script store o phase_of.Calling
     None → IsSteadyAt script store o phase_of.LegacyFinalizer None
-steady-all_called script store o none s = record {
-  ready = s.ready.0;
-  during = tt;
-  held = no_holds store;
-  rows = (none_first (waiting_in store.rows o) none, s.rows.1);
-  no_own_row = s.no_own_row;
-}
+steady-all_called script store o none s = steady_at script store o phase_of.LegacyFinalizer s.ready.0 (no_holds store) (none_first (waiting_in store.rows o) none, s.rows.1) s.no_own_row
 
 -- The newest waiting one has its callback removed and called.
 module _ (script : Script) (store : Store) (o weak f : ℕ) (sound : IsSound store) (newest : slice_get (waiting_in store.rows o) 0 ≡ Some weak)
@@ -289,28 +244,23 @@ module _ (script : Script) (store : Store) (o weak f : ℕ) (sound : IsSound sto
   steady-called s =
       let nothing : occurrences o (f ∷ []) ≡ 0 = ap (λ es. occurrences o (references es)) (sym entry) ∙ held_by_none store o s.ready.0 weak in
       let free = unheld-held emptied o (unheld-rewritten store o s.ready.0 weak [] weak_live (omega arith)) (f ∷ []) nothing in
-      record {
-        ready = record { live = free.live; none = free.none };
-        during = tt;
-        held = λ q.
-            let was = s.held q in
-            let is : occurrences q (waiting_in store.rows o ++ []) ≡ occurrences q (weak ∷ waiting_in (without_row weak store.rows) o ++ []) = ap (λ l. occurrences q (l ++ [])) others_wait in
-            omega (
-              arith,
-              was,
-              is,
-              outside-held (f ∷ []) emptied q (λ h. subst (IsLive emptied) (sym (Rattle.cg_death.proofs.Places.only-one f q h)) callback_live),
-              outside-rewritten weak [] store q,
-              occurrences-cons q f (weak ∷ waiting_in (without_row weak store.rows) o ++ []),
-              occurrences-cons q weak (waiting_in (without_row weak store.rows) o ++ []),
-              occurrences-cons q f [],
-            );
-        rows = (
-          λ w waits. let had = s.ready.1 w (subst (λ l. Includes l w) (sym others_wait) (inr waits)) in (had.0, entries-called w (other_waits w waits) ∙ had.1),
-          none_of_fewer (refers_to o) store.rows (without_row weak store.rows) (left-in weak store.rows) s.rows.1,
-        );
-        no_own_row = all_left (λ r. r.weak ≢ o) weak store.rows s.no_own_row;
-      }
+      steady_at script called o (phase_of.AfterCall weak f) (record { live = free.live; none = free.none })
+      (λ q.
+      let was = s.held q in
+      let is : occurrences q (waiting_in store.rows o ++ []) ≡ occurrences q (weak ∷ waiting_in (without_row weak store.rows) o ++ []) = ap (λ l. occurrences q (l ++ [])) others_wait in
+      omega (
+        arith,
+        was,
+        is,
+        outside-held (f ∷ []) emptied q (λ h. subst (IsLive emptied) (sym (Rattle.cg_death.proofs.Places.only-one f q h)) callback_live),
+        outside-rewritten weak [] store q,
+        occurrences-cons q f (weak ∷ waiting_in (without_row weak store.rows) o ++ []),
+        occurrences-cons q weak (waiting_in (without_row weak store.rows) o ++ []),
+        occurrences-cons q f [],
+      )) (
+        λ w waits. let had = s.ready.1 w (subst (λ l. Includes l w) (sym others_wait) (inr waits)) in (had.0, entries-called w (other_waits w waits) ∙ had.1),
+        none_of_fewer (refers_to o) store.rows (without_row weak store.rows) (left-in weak store.rows) s.rows.1,
+      ) (all_left (λ r. r.weak ≢ o) weak store.rows s.no_own_row)
 
 -- A call has ended: the callback was given up, and its weak reference comes next.
 pub steady-call_ended : (script : Script) (store : Store) (o weak f : ℕ) (release : Release) → references_left release ≡ weak ∷ [] → IsSteadyAt script store o

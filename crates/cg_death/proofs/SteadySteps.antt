@@ -26,7 +26,7 @@ use Rattle.cg_death.proofs.UnheldStays.{unheld-unheld, unheld-moved}
 use Rattle.cg_heap.proofs.RowLemmas.{row_left}
 use Rattle.cg_death.proofs.RowSplits.{split_at, referent-is, left-in}
 use Rattle.cg_death.proofs.RowsLeft.{all_of, none_of_fewer}
-use Rattle.cg_death.proofs.SteadyPhases.{weak_references_by_kind, finalizers_by_kind, only-unheld, only-moved, passes-same, no_holds}
+use Rattle.cg_death.proofs.SteadyPhases.{weak_references_by_kind, finalizers_by_kind, only-unheld, only-moved, passes-same, no_holds, steady_at}
 
 -- Giving up holds preserves what each phase requires.
 module _ (script : Script) (store : Store) (o : ℕ) (refs : List ℕ) where
@@ -37,16 +37,13 @@ module _ (script : Script) (store : Store) (o : ℕ) (refs : List ℕ) where
   callbacks_kept had w waits = let one = had w waits in (one.0, entries-unheld refs store w ∙ one.1)
 
   ready_kept : (phase : Phase) → IsReadyForDeathAt store o phase → IsReadyForDeathAt given_up o phase
-  ready_kept phase_of.Finalizer u = unheld-unheld store o u refs
   ready_kept phase_of.AfterFinalizer u = tt
-  ready_kept phase_of.Clearing r = (unheld-unheld store o r.0 refs, r.1)
-  ready_kept phase_of.Calling r = (unheld-unheld store o r.0 refs, callbacks_kept r.1)
-  ready_kept (phase_of.AfterCall weak callback) u = unheld-unheld store o u refs
-  ready_kept phase_of.LegacyFinalizer u = unheld-unheld store o u refs
   ready_kept phase_of.AfterLegacy u = tt
-  ready_kept phase_of.Detaching u = unheld-unheld store o u refs
-  ready_kept phase_of.Emptying r = (unheld-unheld store o r.0 refs, r.1)
   ready_kept phase_of.Over u = tt
+  ready_kept phase_of.Clearing r = (unheld-unheld store o r.0 refs, r.1)
+  ready_kept phase_of.Emptying r = (unheld-unheld store o r.0 refs, r.1)
+  ready_kept phase_of.Calling r = (unheld-unheld store o r.0 refs, callbacks_kept r.1)
+  ready_kept phase u = unheld-unheld store o u refs
 
   rows_kept : (phase : Phase) → RowsFit script store o phase → RowsFit script given_up o phase
   rows_kept phase_of.Finalizer r = (r.0, only-unheld has_weak_references weak_references_by_kind refs store o r.1)
@@ -54,11 +51,9 @@ module _ (script : Script) (store : Store) (o : ℕ) (refs : List ℕ) where
   rows_kept phase_of.Clearing r = (callbacks_kept r.0, only-unheld has_weak_references weak_references_by_kind refs store o r.1)
   rows_kept phase_of.Calling r = (callbacks_kept r.0, r.1)
   rows_kept (phase_of.AfterCall weak callback) r = (callbacks_kept r.0, r.1)
-  rows_kept phase_of.LegacyFinalizer r = r
   rows_kept phase_of.AfterLegacy r = (r.0, only-unheld (has_finalizers script) (finalizers_by_kind script) refs store o r.1)
   rows_kept phase_of.Detaching r = (r.0, only-unheld (has_finalizers script) (finalizers_by_kind script) refs store o r.1)
-  rows_kept phase_of.Emptying r = tt
-  rows_kept phase_of.Over r = tt
+  rows_kept phase r = r
 
 pub steady-given_up : (script : Script) (store : Store) (o q : ℕ) (phase : Phase) (before after : Option Release) → TakesNext before (Some q) after
     → IsSteadyAt script store o phase before → IsSteadyAt script (unheld (q ∷ []) store) o phase after
@@ -80,13 +75,8 @@ steady-given_up script store o q phase (Some release) (Some left) takes s = reco
 pub steady-popped : (script : Script) (store : Store) (o : ℕ) (phase : Phase) (before after : Option Release) → TakesNext before None after
     → IsSteadyAt script store o phase before → IsSteadyAt script store o phase None
 steady-popped script store o phase None after takes s = s
-steady-popped script store o phase (Some release) after takes s = record {
-  ready = s.ready;
-  during = tt;
-  held = subst (λ l. HasHolds store (l ++ flat_map holds (death_activities o phase (waiting_for store o)))) takes s.held;
-  rows = s.rows;
-  no_own_row = s.no_own_row;
-}
+steady-popped script store o phase (Some release) after takes s = steady_at script store o phase s.ready
+    (subst (λ l. HasHolds store (l ++ flat_map holds (death_activities o phase (waiting_for store o)))) takes s.held) s.rows s.no_own_row
 
 -- A death begins: its object is untracked, and a weak reference is cleared.
 module _ (script : Script) (store : Store) (o : ℕ) (ok : AreRows store) (u : IsUnheld store o) (none_waits : waiting_for store o ≡ []) (fresh : IsFresh store o) where
@@ -95,17 +85,11 @@ module _ (script : Script) (store : Store) (o : ℕ) (ok : AreRows store) (u : I
 
   begun_with : (new : Store) → new.nodes ≡ placed.nodes → IsUnheld new o → ((x : Row) → Includes new.rows x → Includes store.rows x)
       → All (λ r. r.weak ≢ o) new.rows → IsSteadyAt script new o phase_of.Finalizer None
-  begun_with new nodes free inside others = record {
-    ready = free;
-    during = tt;
-    held = no_holds new;
-    rows = (
-      none_of_fewer (waits_with o) store.rows new.rows inside none_waits,
-      λ fails. none_of_fewer (refers_to o) store.rows new.rows inside (only-moved has_weak_references weak_references_by_kind Untracked store o fresh.refers
-          (sym (passes-same has_weak_references weak_references_by_kind placed new nodes o) ∙ fails)),
-    );
-    no_own_row = others;
-  }
+  begun_with new nodes free inside others = steady_at script new o phase_of.Finalizer free (no_holds new) (
+    none_of_fewer (waits_with o) store.rows new.rows inside none_waits,
+    λ fails. none_of_fewer (refers_to o) store.rows new.rows inside (only-moved has_weak_references weak_references_by_kind Untracked store o fresh.refers
+        (sym (passes-same has_weak_references weak_references_by_kind placed new nodes o) ∙ fails)),
+  ) others
 
   placed_unheld : IsUnheld placed o
   placed_unheld = unheld-moved store o Untracked u.live u.none

@@ -1,12 +1,12 @@
 -- Steps of the machine in sequence, and what is given up above a death.
-use Rattle.std.proofs.Common.{◌≡◌, refl, sym, ◌∙◌, ap, subst, ℕ, ◌+◌, ◌⊎◌, Bool, true, false, cond, inl, inr, List, [], ◌∷◌, ◌++◌, Option, Some, None, arith}
+use Rattle.std.proofs.Common.{◌≡◌, refl, sym, ◌∙◌, ap, subst, ℕ, Bool, true, false, cond, inl, inr, List, [], ◌∷◌, ◌++◌, Option, Some, None, arith}
 use Rattle.std.specs.Prelude.{◌==◌, count_by, if◌then◌else◌}
 use Rattle.std.proofs.lemmas.List.Sums.{sum_by-cons}
 use Rattle.cg_script.specs.declared.Script.{Script}
 use Rattle.cg_graph.specs.Store.{Store, count_of, waiting_for}
 use Rattle.cg_graph.specs.Changes.{unheld}
 use Rattle.cg_graph.proofs.Members.{either}
-use Rattle.cg_machine.specs.World.{World, Activity, Releasing, Dying, Death, AfterCall, Calling, with_stack}
+use Rattle.cg_machine.specs.World.{World, Activity, Releasing, Dying, Death, DyingPhase, AfterCall, Calling, with_stack}
 use Rattle.cg_machine.specs.Holdings.{holdings, is_death_of}
 use Rattle.cg_represents.specs.Orderly.{IsHeldInItsFramesAlone}
 use Rattle.cg_machine.specs.Run.{StepOf}
@@ -18,8 +18,8 @@ use Rattle.cg_death.specs.declared.phase.Phase.TheVariants as phase_of
 use Rattle.cg_death.specs.declared.release.Release.{Release}
 use Rattle.cg_death.specs.Activities.{death_of, death_activities, activities, references_left}
 use Rattle.cg_death.specs.Deaths.{TakesNext}
-use Rattle.cg_death.specs.Answers.{DeathStands, WentOn, ReleaseAnswer, DeathAnswer, DeathSteps}
-use Rattle.cg_death.proofs.Worlds.{steps_at}
+use Rattle.cg_death.specs.Answers.{DeathStands, WentOn, ReleaseAnswer, release_answer, DeathAnswer, DeathSteps}
+use Rattle.cg_death.proofs.Worlds.{steps_at, went_to, gave_frame}
 use Rattle.cg_represents.proofs.Representing.{in_one, and_then, matches, represents, pushed, popped}
 use Rattle.cg_death.proofs.Releases.{given_up}
 use Rattle.cg_death.proofs.Turns.{here, rephased, death}
@@ -31,29 +31,17 @@ module _ (script : Script) (v : World) (before between : List Activity) (step : 
   went : (e : List Rattle.cg_machine.specs.declared.event.Event.Event) (numbers : Rattle.cg_machine.specs.World.Numbers) → (with_stack before v).outcome
       ≡ Rattle.cg_machine.specs.World.Running → WentOn script (with_stack between v) e numbers new stack → WentOn script (with_stack before v) e numbers new
       stack
-  went e numbers running a = record {
-    goes = record {
-      after = a.goes.after;
-      goes = and_then script (with_stack before v) (with_stack between v) e a.goes.after running step none next a.goes.goes;
-      top = a.goes.top;
-      represents = a.goes.represents;
-    };
-    keeps = record { numbers = a.keeps.numbers; budget = a.keeps.budget; outcome = a.keeps.outcome };
-  }
+  went e numbers running a =
+      went_to a.goes.after (and_then script (with_stack before v) (with_stack between v) e a.goes.after running step none next a.goes.goes) a.goes.represents a.goes.top
+      (a.keeps.numbers, a.keeps.budget, a.keeps.outcome)
 
   pub first_then : (answer : DeathStep) → v.outcome ≡ Rattle.cg_machine.specs.World.Running → DeathAnswer script (with_stack between v) new stack answer
       → DeathAnswer script (with_stack before v) new stack answer
   first_then answer_of.Continue running a = went [] v.numbers running a
   first_then (answer_of.Emit event) running a = went (event ∷ []) _ running a
-  first_then (answer_of.Frame spec) running a = record {
-    hands = record {
-      before = a.hands.before;
-      goes = and_then script (with_stack before v) (with_stack between v) _ _ running step none next a.hands.goes;
-      top = a.hands.top;
-      represents = a.hands.represents;
-    };
-    keeps = record { numbers = a.keeps.numbers; budget = a.keeps.budget; outcome = a.keeps.outcome };
-  }
+  first_then (answer_of.Frame spec) running a =
+      gave_frame spec a.hands.before (and_then script (with_stack before v) (with_stack between v) _ _ running step none next a.hands.goes) a.hands.represents a.hands.top
+      (a.keeps.numbers, a.keeps.budget, a.keeps.outcome)
   first_then (answer_of.Died o) running a = record {
     hands = record {
       before = a.hands.before;
@@ -75,6 +63,10 @@ of_release script w below new left o false a = a
 -- deaths with and without a release above them
 count_release : (q : ℕ) (references : List ℕ) (stack : List Activity) → count_by (is_death_of q) (Releasing references ∷ stack) ≡ count_by (is_death_of q) stack
 count_release q references stack = sum_by-cons (λ (b : Activity). cond {A = ℕ} (is_death_of q b) 1 0) (Releasing references) stack ∙ omega arith
+
+pub count_again : (q o : ℕ) (phase next : DyingPhase) (below : List Activity) → count_by (is_death_of q) (death_of o phase ∷ below) ≡ count_by (is_death_of q) (death_of o next ∷ below)
+count_again q o phase next below = sum_by-cons (λ (b : Activity). cond {A = ℕ} (is_death_of q b) 1 0) (death_of o phase) below
+    ∙ sym (sum_by-cons (λ (b : Activity). cond {A = ℕ} (is_death_of q b) 1 0) (death_of o next) below)
 
 -- An empty release above a death ends.
 module _ (store : Store) (v : World) (stack : List Activity) where
@@ -99,9 +91,9 @@ after_pop script store tops new tops_after answer none steps =
 
 -- Giving up a reference above a death is a step of the release.
 pub gives_up_above : (script : Script) (store new : Store) (q : ℕ) (left : List ℕ) (tops : List Activity) → new ≡ unheld (q ∷ []) store
-    → DeathSteps script store (Releasing (q ∷ left) ∷ tops) new (Releasing left ∷ tops) (if count_of new q == 0 then answer_of.Died q else answer_of.Continue)
+    → DeathSteps script store (Releasing (q ∷ left) ∷ tops) new (Releasing left ∷ tops) (release_answer (q ∷ []) new)
 gives_up_above script store new q left tops is =
-    steps_at script store (Releasing (q ∷ left) ∷ tops) new (Releasing left ∷ tops) (if count_of new q == 0 then answer_of.Died q else answer_of.Continue)
+    steps_at script store (Releasing (q ∷ left) ∷ tops) new (Releasing left ∷ tops) (release_answer (q ∷ []) new)
     (λ v below s. of_release script (with_stack (Releasing (q ∷ left) ∷ tops ++ below) v) (tops ++ below) new left q (count_of new q == 0) (given_up script store v q left (tops ++ below) s new is))
 
 -- After a callback both are given up, callback first.
@@ -122,70 +114,50 @@ module _ (script : Script) (store : Store) (o weak callback : ℕ) where
         (λ e. let same : death o (Calling ws) ≡ d = cc in subst (λ (x : Death). IsHeldInItsFramesAlone x.object x.phase
         (holdings (here store v o (AfterCall weak callback ws) below))) same (s.unheld (death o (AfterCall weak callback ws)) (inl refl)))
         (λ n. s.unheld d (inr n)));
-    once = λ q.
-        let was = s.once q in
-        let old : count_by (is_death_of q) (death_of o (AfterCall weak callback ws) ∷ below) ≡ cond {A = ℕ} (o == q) 1 0 + count_by (is_death_of q) below =
-        sum_by-cons (λ (b : Activity). cond {A = ℕ} (is_death_of q b) 1 0) (death_of o (AfterCall weak callback ws)) below in
-        let now : count_by (is_death_of q) (death_of o (Calling ws) ∷ below) ≡ cond {A = ℕ} (o == q) 1 0 + count_by (is_death_of q) below =
-        sum_by-cons (λ (b : Activity). cond {A = ℕ} (is_death_of q b) 1 0) (death_of o (Calling ws)) below in
-        omega (arith, was, old, now, count_release q (callback ∷ weak ∷ []) (death_of o (Calling ws) ∷ below));
+    once = λ q. let was = s.once q in omega (
+      arith,
+      was,
+      count_again q o (AfterCall weak callback ws) (Calling ws) below,
+      count_release q (callback ∷ weak ∷ []) (death_of o (Calling ws) ∷ below),
+    );
   }
 
   pub turn-call_ended : (new : Store) (release : Release) → new ≡ unheld (callback ∷ []) store → references_left release ≡ weak ∷ []
       → DeathSteps script store (activities o (phase_of.AfterCall weak callback) None store) new (activities o phase_of.Calling (Some release) new)
-      (if count_of new callback == 0 then answer_of.Died callback else answer_of.Continue)
+      (release_answer (callback ∷ []) new)
   turn-call_ended new release is left =
       steps_at script store (death_of o (AfterCall weak callback ws) ∷ []) new (Releasing (references_left release) ∷ death_of o (Calling (waiting_for new o))
-      ∷ []) (if count_of new callback == 0 then answer_of.Died callback else answer_of.Continue)
+      ∷ []) (release_answer (callback ∷ []) new)
       (λ v below s.
       subst (λ l. DeathAnswer script (here store v o (AfterCall weak callback ws) below) new (Releasing l ∷ death_of o (Calling (waiting_for new o)) ∷ below)
-      (if count_of new callback == 0 then answer_of.Died callback else answer_of.Continue)) (sym left)
+      (release_answer (callback ∷ []) new)) (sym left)
       (subst (λ us. DeathAnswer script (here store v o (AfterCall weak callback ws) below) new (Releasing (weak ∷ []) ∷ death_of o (Calling us) ∷ below)
-      (if count_of new callback == 0 then answer_of.Died callback else answer_of.Continue)) (ap (λ st. waiting_for st o) (sym is))
+      (release_answer (callback ∷ []) new)) (ap (λ st. waiting_for st o) (sym is))
       (first_then script v (death_of o (AfterCall weak callback ws) ∷ below) (Releasing (callback ∷ weak ∷ []) ∷ death_of o (Calling ws) ∷ below) (refl, refl)
-      refl refl new (Releasing (weak ∷ []) ∷ death_of o (Calling ws) ∷ below) (if count_of new callback == 0 then answer_of.Died callback
-      else answer_of.Continue) s.running
+      refl refl new (Releasing (weak ∷ []) ∷ death_of o (Calling ws) ∷ below) (release_answer (callback ∷ []) new) s.running
       (of_release script (with_stack (Releasing (callback ∷ weak ∷ []) ∷ death_of o (Calling ws) ∷ below) v) (death_of o (Calling ws) ∷ below) new (weak ∷ []) callback (count_of new callback == 0)
       (given_up script store v callback (weak ∷ []) (death_of o (Calling ws) ∷ below) (stands-pushed v below s) new is)))))
 
 -- Above a death, one reference is given up, or none is left.
 pub step-given_up : (script : Script) (store new : Store) (o q : ℕ) (phase : Phase) (before after : Option Release) → TakesNext before (Some q) after → new ≡ unheld (q ∷ []) store
-    → DeathSteps script store (activities o phase before store) new (activities o phase after new) (if count_of new q == 0 then answer_of.Died q else answer_of.Continue)
+    → DeathSteps script store (activities o phase before store) new (activities o phase after new) (release_answer (q ∷ []) new)
 step-given_up script store new o q phase None after takes is = absurd takes
 step-given_up script store new o q phase (Some release) None takes is = absurd takes
 step-given_up script store new o q phase (Some release) (Some left) takes is =
     subst (λ st. DeathSteps script store (Releasing (references_left release) ∷ death_activities o phase (waiting_for store o)) new
-    (Releasing (references_left left) ∷ death_activities o phase (waiting_for st o)) (if count_of new q == 0 then answer_of.Died q else answer_of.Continue))
+    (Releasing (references_left left) ∷ death_activities o phase (waiting_for st o)) (release_answer (q ∷ []) new))
     (sym is)
     (subst (λ refs. DeathSteps script store (Releasing refs ∷ death_activities o phase (waiting_for store o)) new (Releasing (references_left left)
-    ∷ death_activities o phase (waiting_for store o)) (if count_of new q == 0 then answer_of.Died q else answer_of.Continue)) (sym takes)
+    ∷ death_activities o phase (waiting_for store o)) (release_answer (q ∷ []) new)) (sym takes)
     (gives_up_above script store new q (references_left left) (death_activities o phase (waiting_for store o)) is))
 
 -- One that is over has at most an empty release left, which ends.
 over_popped : (script : Script) (store : Store) → DeathSteps script store (Releasing [] ∷ []) store [] answer_of.Gone
 over_popped script store =
     steps_at script store (Releasing [] ∷ []) store [] answer_of.Gone
-    (λ v below s. record {
-      goes = record {
-        after = with_stack below v;
-        goes = in_one script (with_stack (Releasing [] ∷ below) v) [] (with_stack below v) s.running (refl, refl);
-        top = refl;
-        represents = (stands-popped store v below s).represents;
-      };
-      keeps = record { numbers = refl; budget = refl; outcome = refl };
-    })
-
-over_or_there : (o : ℕ) (phase : Phase) (waiting : List ℕ) → (phase ≡ phase_of.Over) ⊎ ((below : List Activity) → detects (death_activities o phase waiting ++ below) ≡ false)
-over_or_there o phase_of.Finalizer waiting = inr (λ below. refl)
-over_or_there o phase_of.AfterFinalizer waiting = inr (λ below. refl)
-over_or_there o phase_of.Clearing waiting = inr (λ below. refl)
-over_or_there o phase_of.Calling waiting = inr (λ below. refl)
-over_or_there o (phase_of.AfterCall weak callback) waiting = inr (λ below. refl)
-over_or_there o phase_of.LegacyFinalizer waiting = inr (λ below. refl)
-over_or_there o phase_of.AfterLegacy waiting = inr (λ below. refl)
-over_or_there o phase_of.Detaching waiting = inr (λ below. refl)
-over_or_there o phase_of.Emptying waiting = inr (λ below. refl)
-over_or_there o phase_of.Over waiting = inl refl
+    (λ v below s. went_to (with_stack below v)
+    (in_one script (with_stack (Releasing [] ∷ below) v) [] (with_stack below v) s.running (refl, refl))
+    ((stands-popped store v below s).represents) refl (refl, refl, refl))
 
 -- A turn of one that is over changes nothing.
 pub record RestsIfOver (store new : Store) (phase : Phase) (tops : List Activity) (answer : DeathStep) : Type 0 where
@@ -193,31 +165,23 @@ pub record RestsIfOver (store new : Store) (phase : Phase) (tops : List Activity
   pub nothing : phase ≡ phase_of.Over → tops ≡ []
   pub gone : phase ≡ phase_of.Over → answer ≡ answer_of.Gone
 
-module _ (script : Script) (store new : Store) (o : ℕ) (phase : Phase) (tops : List Activity) (answer : DeathStep) (rests : RestsIfOver store new phase tops
-    answer) (steps : DeathSteps script store (death_activities o phase (waiting_for store o)) new tops answer) where
+module _ (script : Script) (store new : Store) (o : ℕ) (tops : List Activity) (answer : DeathStep) where
   -- the release above it ends first
-  turned_below : DeathSteps script store (Releasing [] ∷ death_activities o phase (waiting_for store o)) new tops answer
-  turned_below = either (over_or_there o phase (waiting_for store o))
-      (λ over.
-      subst (λ p. DeathSteps script store (Releasing [] ∷ death_activities o p (waiting_for store o)) new tops answer) (sym over)
-      (subst (λ st. DeathSteps script store (Releasing [] ∷ []) st tops answer) (sym (rests.heap over))
-      (subst (λ ts. DeathSteps script store (Releasing [] ∷ []) store ts answer) (sym (rests.nothing over))
-      (subst (DeathSteps script store (Releasing [] ∷ []) store []) (sym (rests.gone over)) (over_popped script store)))))
-      (λ none. after_pop script store (death_activities o phase (waiting_for store o)) new tops answer none steps)
+  turned_below : (phase : Phase) → RestsIfOver store new phase tops answer → DeathSteps script store (death_activities o phase (waiting_for store o)) new tops answer
+      → DeathSteps script store (Releasing [] ∷ death_activities o phase (waiting_for store o)) new tops answer
+  turned_below phase_of.Over rests steps =
+      subst (λ st. DeathSteps script store (Releasing [] ∷ []) st tops answer) (sym (rests.heap refl))
+      (subst (λ ts. DeathSteps script store (Releasing [] ∷ []) store ts answer) (sym (rests.nothing refl))
+      (subst (DeathSteps script store (Releasing [] ∷ []) store []) (sym (rests.gone refl)) (over_popped script store)))
+  turned_below phase rests steps = after_pop script store (death_activities o phase (waiting_for store o)) new tops answer (λ below. refl) steps
 
-  pub step-turned : (before after : Option Release) → TakesNext before None after → DeathSteps script store (activities o phase before store) new tops answer
-  step-turned None after takes = steps
-  step-turned (Some release) after takes = subst (λ refs. DeathSteps script store (Releasing refs ∷ death_activities o phase (waiting_for store o)) new tops answer) (sym takes) turned_below
+  pub step-turned : (phase : Phase) → RestsIfOver store new phase tops answer → DeathSteps script store (death_activities o phase (waiting_for store o)) new tops answer
+      → (before after : Option Release) → TakesNext before None after → DeathSteps script store (activities o phase before store) new tops answer
+  step-turned phase rests steps None after takes = steps
+  step-turned phase rests steps (Some release) after takes = subst (λ refs. DeathSteps script store (Releasing refs ∷ death_activities o phase (waiting_for store o)) new tops answer) (sym takes)
+      (turned_below phase rests steps)
 
 pub turn-over : (script : Script) (store : Store) (o : ℕ) → DeathSteps script store (activities o phase_of.Over None store) store (activities o phase_of.Over None store) answer_of.Gone
 turn-over script store o =
     steps_at script store [] store [] answer_of.Gone
-    (λ v below s. record {
-      goes = record {
-        after = with_stack below v;
-        goes = record { steps = []; run = tt; prints = refl; ends = refl; alone = tt };
-        top = refl;
-        represents = s.represents;
-      };
-      keeps = record { numbers = refl; budget = refl; outcome = refl };
-    })
+    (λ v below s. went_to (with_stack below v) (record { steps = []; run = tt; prints = refl; ends = refl; alone = tt }) s.represents refl (refl, refl, refl))

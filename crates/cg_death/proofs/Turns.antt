@@ -20,6 +20,7 @@ use Rattle.cg_represents.specs.Orderly.{death_waits}
 use Rattle.cg_death.specs.Activities.{death_of}
 use Rattle.cg_death.specs.Answers.{DeathStands, WentOn}
 use Rattle.cg_represents.proofs.Representing.{in_one, Matches, matches, represents}
+use Rattle.cg_death.proofs.Worlds.{went_to}
 
 -- no row waits with an object for which none waits
 pub not_waiting : (Y : Type 0) (store : Store) (o : ℕ) → waiting_for store o ≡ [] → (row : Row) → Includes store.rows row → row.waits ≡ true → row.referent ≡ o → Y
@@ -81,15 +82,9 @@ module _ (store : Store) (v : World) (o : ℕ) (phase : DyingPhase) (below : Lis
     pub only_phase : (next : DyingPhase) → dying script o phase below here ≡ ([], death_at o next below here) → death_waits next ≡ waiting_for store o
         → ((q : ℕ) → occurrences q (dying_holds o next) ≡ occurrences q (dying_holds o phase))
         → WentOn script here [] here.numbers store (death_of o next ∷ below)
-    only_phase next e waits held = record {
-      goes = record {
-        after = death_at o next below here;
-        goes = steps_to [] (death_at o next below here) e;
-        top = refl;
-        represents = represents store (death_at o next below here) (rephased next waits (matches store here s.represents)) (λ q. s.represents.outside q ∙ same q);
-      };
-      keeps = record { numbers = refl; budget = refl; outcome = refl };
-    }
+    only_phase next e waits held = went_to (death_at o next below here)
+        (steps_to [] (death_at o next below here) e)
+        (represents store (death_at o next below here) (rephased next waits (matches store here s.represents)) (λ q. s.represents.outside q ∙ same q)) refl (refl, refl, refl)
       where
         same : (q : ℕ) → occurrences q (dying_holds o phase ++ flat_map holds below) ≡ occurrences q (dying_holds o next ++ flat_map holds below)
         same q = omega (arith, held q, occurrences-append q (dying_holds o phase) (flat_map holds below), occurrences-append q (dying_holds o next) (flat_map holds below))

@@ -117,6 +117,13 @@ row_there (r ∷ rows) q o found = go ((r.weak == q) && not r.waits) refl (row_t
         let later = rest (sym (ap (λ b. option_map (λ (x : Row). x.referent) (cond b (Some r) (find (λ x. (x.weak == q) && not x.waits) rows))) fails) ∙ found) in
         (later.0, inr later.1, later.2, later.3)
 
+-- the row of a weak reference with a referent, by both numbers
+pub referring_row : (rows : List Row) (q o : ℕ) → referent_in rows q ≡ Some o → (r : Row) × Includes rows r × (r.waits ≡ false) × ◌≡◌ {A = ℕ × ℕ} (r.referent, r.weak) (o, q)
+referring_row rows q o found =
+    let row = row_there rows q o found in
+    let parts = true_and (row.0.referent == o) (not row.0.waits) row.2 in
+    (row.0, row.1, not-true row.0.waits parts.1, λ i. (eqb-true row.0.referent o parts.0 i, row.3 i))
+
 refers_some : (o : ℕ) (r : Option ℕ) → unwrap_or (option_map (λ p. p == o) r) false ≡ true → r ≡ Some o
 refers_some o None e = absurd (let x : false ≡ true = e in cc)
 refers_some o (Some p) e = ap Some (eqb-true p o e)

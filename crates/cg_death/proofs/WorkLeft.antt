@@ -4,6 +4,7 @@ use Rattle.std.specs.Prelude.{option_map}
 use Rattle.std.specs.FinMap as fin
 use Rattle.cg_value.specs.declared.Entry.{Entry}
 use Rattle.cg_graph.specs.Value.{entry_references, without_last}
+use Rattle.cg_graph.specs.Maps.{mapped}
 use Rattle.cg_graph.specs.Holdings.{occurrences}
 use Rattle.cg_graph.specs.Store.{Store, Node, IsLive, entries_of, entries_in}
 use Rattle.cg_graph.specs.Changes.{held, rewritten, more, with_entries, unheld, less}
@@ -17,19 +18,18 @@ use Rattle.cg_death.specs.Falls.{Falls}
 use Rattle.cg_death.specs.Deaths.{TakesNext}
 
 -- holds leave entries alone
-pub entries-held : (refs : List ℕ) (store : Store) (q : ℕ) → entries_of (held refs store) q ≡ entries_of store q
-entries-held refs store q = ap entries_in (get-mapped (λ s n. more (occurrences s refs) n) store.nodes q) ∙ known (fin.get store.nodes q)
+entries-kept : (g : ℕ → Node → Node) → ((s : ℕ) (n : Node) → (g s n).entries ≡ n.entries) → (store : Store) (q : ℕ) → entries_in (fin.get (mapped g store.nodes) q) ≡ entries_of store q
+entries-kept g same store q = ap entries_in (get-mapped g store.nodes q) ∙ known (fin.get store.nodes q)
   where
-    known : (x : Option Node) → entries_in (option_map (more (occurrences q refs)) x) ≡ entries_in x
+    known : (x : Option Node) → entries_in (option_map (g q) x) ≡ entries_in x
     known None = refl
-    known (Some n) = refl
+    known (Some n) = same q n
+
+pub entries-held : (refs : List ℕ) (store : Store) (q : ℕ) → entries_of (held refs store) q ≡ entries_of store q
+entries-held refs = entries-kept (λ s n. more (occurrences s refs) n) (λ s n. refl)
 
 pub entries-unheld : (refs : List ℕ) (store : Store) (q : ℕ) → entries_of (unheld refs store) q ≡ entries_of store q
-entries-unheld refs store q = ap entries_in (get-mapped (λ s n. less (occurrences s refs) n) store.nodes q) ∙ known (fin.get store.nodes q)
-  where
-    known : (x : Option Node) → entries_in (option_map (less (occurrences q refs)) x) ≡ entries_in x
-    known None = refl
-    known (Some n) = refl
+entries-unheld refs = entries-kept (λ s n. less (occurrences s refs) n) (λ s n. refl)
 
 pub entries-rewritten : (store : Store) (o : ℕ) (entries : List Entry) → IsLive store o → entries_of (rewritten o entries store) o ≡ entries
 entries-rewritten store o entries live = ap entries_in (get-changed_same (with_entries entries) o store.nodes o refl) ∙ known (fin.get store.nodes o) live
@@ -58,14 +58,10 @@ falls-call_ended store o weak callback release left =
     let same : length (entries_of (unheld (callback ∷ []) store) o) ≡ length (entries_of store o) = ap length (entries-unheld (callback ∷ []) store o) in
     inr (refl, omega (arith, one, same))
 
-pub falls-given_up : (store : Store) (o : ℕ) (phase : Phase) (q : ℕ) (before after : Release) → references_left before ≡ q ∷ references_left after
-    → Falls o store phase (Some before) (unheld (q ∷ []) store) phase (Some after)
-falls-given_up store o phase q before after taken =
-    let fewer : length (references_left before) ≡ length (q ∷ references_left after) = ap length taken in
-    let same : length (entries_of (unheld (q ∷ []) store) o) ≡ length (entries_of store o) = ap length (entries-unheld (q ∷ []) store o) in
-    inr (refl, omega (arith, fewer, same))
-
 pub falls-step : (store : Store) (o q : ℕ) (phase : Phase) (before after : Option Release) → TakesNext before (Some q) after → Falls o store phase before (unheld (q ∷ []) store) phase after
 falls-step store o q phase None after takes = absurd takes
 falls-step store o q phase (Some release) None takes = absurd takes
-falls-step store o q phase (Some release) (Some left) takes = falls-given_up store o phase q release left takes
+falls-step store o q phase (Some release) (Some left) takes =
+    let fewer : length (references_left release) ≡ length (q ∷ references_left left) = ap length takes in
+    let same : length (entries_of (unheld (q ∷ []) store) o) ≡ length (entries_of store o) = ap length (entries-unheld (q ∷ []) store o) in
+    inr (refl, omega (arith, fewer, same))

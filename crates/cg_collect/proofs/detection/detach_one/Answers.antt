@@ -18,7 +18,7 @@ use Rattle.cg_collect.specs.Answers.{CollectSteps}
 use Rattle.cg_collect.specs.Turns.{collection_at}
 use Rattle.cg_collect.proofs.NothingIsMade.{keeps_all, keeps-cleared}
 use Rattle.cg_collect.proofs.TakingTurns.{at_phase, in_heap, goes_on, tells}
-use Rattle.cg_collect.proofs.Stopping.{next_from, next_at}
+use Rattle.cg_collect.proofs.StartLines.{next_from, next_at}
 use Rattle.cg_collect.proofs.Detecting.{turn-passed, turn-detached, turn-lost, apart_lost, behind_lost, lost_refers, Newest, newest_row, from_here}
 use Rattle.cg_collect.proofs.Unlinking.{unlink_begins}
 use Rattle.cg_collect.proofs.Unreferred.{turn-unreferred}

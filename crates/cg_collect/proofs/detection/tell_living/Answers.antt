@@ -10,7 +10,7 @@ use Rattle.cg_collect.specs.Ready.{IsAt}
 use Rattle.cg_collect.proofs.NothingIsMade.{keeps_all}
 use Rattle.cg_collect.proofs.TakingTurns.{at_phase, goes_on, tells}
 use Rattle.cg_collect.proofs.StartLines.{from_first, at_first}
-use Rattle.cg_collect.proofs.Stopping.{next_from, next_at}
+use Rattle.cg_collect.proofs.StartLines.{next_from, next_at}
 use Rattle.cg_collect.proofs.Detecting.{turn-living, turn-all_living}
 use Rattle.cg_collect.proofs.detection.tell_living.Goals as goal
 

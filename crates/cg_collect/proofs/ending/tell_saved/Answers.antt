@@ -6,7 +6,8 @@ use Rattle.cg_machine.specs.Collect.{older}
 use Rattle.cg_collect.specs.declared.phase.Phase.TheVariants as phase_of
 use Rattle.cg_collect.specs.Ready.{IsAt}
 use Rattle.cg_collect.proofs.NothingIsMade.{keeps_all}
-use Rattle.cg_collect.proofs.Stopping.{turn-saved_told, turn-not_saved, turn-stopping, next_from, next_at, around_shorter}
+use Rattle.cg_collect.proofs.StartLines.{next_from, next_at}
+use Rattle.cg_collect.proofs.Stopping.{turn-saved_told, turn-not_saved, turn-stopping, around_shorter}
 use Rattle.cg_collect.proofs.TakingTurns.{at_phase, goes_on, tells}
 use Rattle.cg_collect.proofs.ending.tell_saved.Goals as goal
 

@@ -1,6 +1,9 @@
 use Rattle.std.proofs.Common.{arith}
-use Rattle.cg_collect.proofs.Untracked.{untracking_looked, untracking_live, untracking_looks, untracking_shorter, untracking_done}
+use Rattle.cg_collect.proofs.Untracked.{untracks_none, untracking_looked, untracking_live, untracking_looks, untracking_shorter, untracking_done}
 use Rattle.cg_collect.proofs.untracking.untrack_kind.Goals as goal
+
+pub returns-then-has_none : goal.returns-then-has_none
+returns-then-has_none g c = record { untracks = untracks_none c.args.generation c.args.kind c.args.heap.now (c.has_none.ensures c.if-has_none.true); looks = omega arith }
 
 pub objects-init : goal.objects-init
 objects-init g c = untracking_looked c.args.generation c.args.kind c.args.heap.now c.first_near-next.result c.args.steps.now c.first_near-next.ensures

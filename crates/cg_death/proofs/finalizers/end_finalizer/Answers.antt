@@ -1,13 +1,12 @@
-use Rattle.std.proofs.Common.{◌≡◌, refl, [], ◌∷◌, ap, ◌∙◌, Bool, true, false, IsTrue, arith}
+use Rattle.std.proofs.Common.{refl, [], ◌∷◌, ap, ◌∙◌, true, false, arith}
 use Rattle.std.specs.Prelude.{if◌then◌else◌}
 use Rattle.cg_value.specs.declared.Place.TheVariants.{Untracked}
 use Rattle.cg_graph.specs.Changes.{unheld, moved}
 use Rattle.cg_machine.specs.declared.event.Event.TheVariants.{Alive}
-use Rattle.cg_death.specs.declared.phase.Phase.TheVariants as phase_of
 use Rattle.cg_death.proofs.Finalizing.{turn-unheld_again, turn-brought_back}
 use Rattle.cg_death.proofs.LeavingTheRest.{rest-frame_ended}
 use Rattle.cg_death.proofs.SteadyPhases.{steady-frame_ended, steady-over}
-use Rattle.cg_death.proofs.TakingTurns.{goes_on, tells}
+use Rattle.cg_death.proofs.TakingTurns.{is_held, goes_on, tells}
 use Rattle.cg_death.proofs.finalizers.end_finalizer.Goals as goal
 
 pub returns-then-is_unheld_now : goal.returns-then-is_unheld_now
@@ -15,18 +14,14 @@ returns-then-is_unheld_now g c = λ script.
     let none = c.is_unheld_now.ensures.answer.0 c.if-is_unheld_now.true in
     let new_is = c.is_unheld_now.ensures.rest ∙ ap (λ b. if b then moved c.args.object Untracked (unheld (c.args.object ∷ []) c.args.heap.now)
     else unheld (c.args.object ∷ []) c.args.heap.now) c.if-is_unheld_now.true in
-    goes_on script c.args.heap.now _ c.is_unheld_now.new.heap new_is c.args.object phase_of.AfterFinalizer phase_of.Clearing c.to.result
+    goes_on new_is
     (rest-frame_ended true c.args.object Untracked c.args.heap.now) (steady-frame_ended script c.args.heap.now c.args.object c.requires none) c.to.ensures
-    (turn-unheld_again script c.args.heap.now c.is_unheld_now.new.heap c.args.object none new_is) (omega arith) (λ over. absurd (cc))
-
-no : (b : Bool) → b ≡ false → IsTrue b → ⊥
-no true e t = cc
-no false e t = cc
+    (turn-unheld_again script c.args.heap.now c.args.object none) (omega arith) (λ over. absurd (cc))
 
 pub returns-else-is_unheld_now : goal.returns-else-is_unheld_now
 returns-else-is_unheld_now g c = λ script.
     let new_is = c.is_unheld_now.ensures.rest ∙ ap (λ b. if b then moved c.args.object Untracked (unheld (c.args.object ∷ []) c.args.heap.now)
     else unheld (c.args.object ∷ []) c.args.heap.now) c.if-is_unheld_now.false in
-    tells script c.args.heap.now _ c.is_unheld_now.new.heap new_is c.args.object phase_of.AfterFinalizer phase_of.Over c.tells.result (rest-frame_ended false c.args.object Untracked c.args.heap.now)
+    tells new_is (rest-frame_ended false c.args.object Untracked c.args.heap.now)
     (λ s. steady-over script (unheld (c.args.object ∷ []) c.args.heap.now) c.args.object s.no_own_row) (Alive c.args.object) c.tells.ensures
-    (turn-brought_back script c.args.heap.now c.is_unheld_now.new.heap c.args.object (λ z. no c.is_unheld_now.result c.if-is_unheld_now.false (c.is_unheld_now.ensures.answer.1 z)) new_is) refl
+    (turn-brought_back script c.args.heap.now c.args.object (λ z. is_held c.is_unheld_now.result c.if-is_unheld_now.false (c.is_unheld_now.ensures.answer.1 z))) refl

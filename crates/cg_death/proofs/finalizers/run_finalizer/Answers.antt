@@ -34,21 +34,21 @@ returns-then-is_plain g c =
     let del = c.is_plain.ensures.del c.if-is_plain.true in
     let legacy = c.is_plain.ensures.legacy c.if-is_plain.true in
     let weak = c.is_plain.ensures.weak c.if-is_plain.true in
-    goes_on c.args.script.now c.args.heap.now _ _ refl c.args.object phase_of.Finalizer phase_of.Emptying c.to.result (rest-same c.args.heap.now)
+    goes_on refl (rest-same c.args.heap.now)
     (steady-plain c.args.script.now c.args.heap.now c.args.object del legacy weak c.sound.ensures.rows) c.to.ensures
     (turn-plain c.args.script.now c.args.heap.now c.args.object del legacy weak) (omega arith) (λ over. absurd (cc))
 
 pub returns-in-None : goal.returns-in-None
 returns-in-None g c =
-    goes_on c.args.script.now c.args.heap.now _ _ refl c.args.object phase_of.Finalizer phase_of.Clearing c.to-in-None.result (rest-same c.args.heap.now)
+    goes_on refl (rest-same c.args.heap.now)
     (steady-no_finalizer c.args.script.now c.args.heap.now c.args.object) c.to-in-None.ensures
-    (turn-no_finalizer c.args.script.now c.args.heap.now c.args.heap.now c.args.object (sym c.in-None.ensures)) (omega arith) (λ over. absurd (cc))
+    (turn-no_finalizer c.args.script.now c.args.heap.now c.args.object (sym c.in-None.ensures)) (omega arith) (λ over. absurd (cc))
 
 pub returns-in-Some : goal.returns-in-Some
 returns-in-Some g c =
     let new_is = c.hold.ensures ∙ ap (held (c.args.object ∷ [])) (c.set_finalized.ensures ∙ ap (with_node marked c.args.object) c.move_to.ensures) in
-    runs c.args.script.now c.args.heap.now _ c.hold.new.self new_is c.args.object phase_of.Finalizer phase_of.AfterFinalizer c.runs.result
+    runs new_is
     (rest-own_frame c.args.object (Gen 0) c.args.heap.now) (steady-finalizer c.args.script.now c.args.heap.now c.args.object)
     _ (c.runs.ensures ∙ ap (running phase_of.AfterFinalizer) c.finalizer_frame.ensures)
-    (turn-finalizer c.args.script.now c.args.heap.now c.hold.new.self c.args.object c.in-Some.proc (sym c.in-Some.ensures) c.requires.unheld.live
-    c.requires.unheld.none new_is) refl refl (λ over. absurd (cc))
+    (turn-finalizer c.args.script.now c.args.heap.now c.args.object c.in-Some.proc (sym c.in-Some.ensures) c.requires.unheld.live
+    c.requires.unheld.none) refl refl (λ over. absurd (cc))

@@ -21,15 +21,15 @@ hold-requires-clause-few g c = subst HasFewHolds (sym c.move_to.ensures) (omega 
 
 pub returns-in-None : goal.returns-in-None
 returns-in-None g c =
-    goes_on c.args.script.now c.args.heap.now _ _ refl c.args.object phase_of.LegacyFinalizer phase_of.Detaching c.to.result (rest-same c.args.heap.now)
+    goes_on refl (rest-same c.args.heap.now)
     (steady-no_legacy c.args.script.now c.args.heap.now c.args.object) c.to.ensures
-    (turn-no_legacy c.args.script.now c.args.heap.now c.args.heap.now c.args.object (sym c.finalizers_of.ensures.legacy ∙ c.in-None.is)) (omega arith) (λ over. absurd (cc))
+    (turn-no_legacy c.args.script.now c.args.heap.now c.args.object (sym c.finalizers_of.ensures.legacy ∙ c.in-None.is)) (omega arith) (λ over. absurd (cc))
 
 pub returns-in-Some : goal.returns-in-Some
 returns-in-Some g c =
     let new_is = c.hold.ensures ∙ ap (held (c.args.object ∷ [])) c.move_to.ensures in
-    runs c.args.script.now c.args.heap.now _ c.hold.new.self new_is c.args.object phase_of.LegacyFinalizer phase_of.AfterLegacy c.runs.result
+    runs new_is
     (rest-legacy_frame c.args.object (Gen 0) c.args.heap.now) (steady-legacy c.args.script.now c.args.heap.now c.args.object)
     _ (c.runs.ensures ∙ ap (running phase_of.AfterLegacy) c.finalizer_frame.ensures)
-    (turn-legacy c.args.script.now c.args.heap.now c.hold.new.self c.args.object c.in-Some.proc (sym c.finalizers_of.ensures.legacy ∙ c.in-Some.is)
-    c.requires.unheld.live c.requires.unheld.none new_is) refl refl (λ over. absurd (cc))
+    (turn-legacy c.args.script.now c.args.heap.now c.args.object c.in-Some.proc (sym c.finalizers_of.ensures.legacy ∙ c.in-Some.is)
+    c.requires.unheld.live c.requires.unheld.none) refl refl (λ over. absurd (cc))

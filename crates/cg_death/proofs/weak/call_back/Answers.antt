@@ -49,8 +49,8 @@ returns g c = λ script.
     let proc_is = ap (λ (st : Store). unwrap_or (option_and_then (λ (x : Object). x.class) (object_at (objects_of st) f)) 0) new_is ∙ ap (λ k. unwrap_or k 0)
     (procedure-after c.args.heap.now c.args.weak f [] (f ∷ [])) in
     let frame_is = c.callback_frame.ensures ∙ ap (λ (p : ℕ). record { sort = Callback; proc = p; subject = c.args.weak; func = Some f }) proc_is in
-    runs script c.args.heap.now _ c.forget_weak.new.self new_is c.args.object phase_of.Calling (phase_of.AfterCall c.args.weak f) c.runs.result (rest-called c.args.weak f c.args.heap.now)
+    runs new_is (rest-called c.args.weak f c.args.heap.now)
     (steady-called script c.args.heap.now c.args.object c.args.weak f c.sound.ensures c.requires.newest c.take_callback-callback.ensures.callback)
     _ (c.runs.ensures ∙ ap (running (phase_of.AfterCall c.args.weak f)) frame_is)
-    (turn-called script c.args.heap.now c.forget_weak.new.self c.args.object c.args.weak f c.sound.ensures.rows c.requires.newest c.sound.ensures.live c.take_callback-callback.ensures.callback new_is)
+    (turn-called script c.args.heap.now c.args.object c.args.weak f c.sound.ensures.rows c.requires.newest c.sound.ensures.live c.take_callback-callback.ensures.callback)
     refl (f, refl, refl) (λ over. absurd (cc))

@@ -6,8 +6,6 @@ use Rattle.cg_heap.proofs.CallerLemmas.{lives_on, kinds-moved}
 use Rattle.cg_death.proofs.Beginning.{begins-death}
 use Rattle.std.proofs.Common.{◌∙◌, ap}
 use Rattle.cg_death.specs.Deaths.{forgets_referent}
-use Rattle.cg_death.specs.Answers.{MakesNone}
-use Rattle.cg_death.specs.Steady.{TakesFewHolds, KeepsNames}
 use Rattle.cg_death.proofs.LeavingTheRest.{rest-begun}
 use Rattle.std.proofs.Common.{None}
 use Rattle.cg_death.specs.declared.phase.Phase.TheVariants as phase_of
@@ -26,12 +24,10 @@ returns-clause-begins g c = λ w r.
     c.move_to.ensures c.lose_own_referent.ensures w r
 
 pub returns-clause-objects : goal.returns-clause-objects
-returns-clause-objects g c = subst (MakesNone c.args.heap.now) (sym (c.lose_own_referent.ensures ∙ ap (forgets_referent c.args.object) c.move_to.ensures))
-    (rest-begun c.args.object Untracked c.args.heap.now).objects
+returns-clause-objects g c = (rest-begun c.args.object Untracked c.args.heap.now _ _ c.move_to.ensures c.lose_own_referent.ensures).objects
 
 pub returns-clause-holds : goal.returns-clause-holds
-returns-clause-holds g c = subst (TakesFewHolds c.args.heap.now) (sym (c.lose_own_referent.ensures ∙ ap (forgets_referent c.args.object) c.move_to.ensures))
-    (rest-begun c.args.object Untracked c.args.heap.now).holds
+returns-clause-holds g c = (rest-begun c.args.object Untracked c.args.heap.now _ _ c.move_to.ensures c.lose_own_referent.ensures).holds
 
 pub returns-clause-steady : goal.returns-clause-steady
 returns-clause-steady g c = λ script fresh.
@@ -39,5 +35,4 @@ returns-clause-steady g c = λ script fresh.
     (steady-begun script c.args.heap.now c.args.object c.sound.ensures.rows c.requires.unheld c.requires.none_waits fresh)
 
 pub returns-clause-names : goal.returns-clause-names
-returns-clause-names g c = subst (KeepsNames c.args.heap.now) (sym (c.lose_own_referent.ensures ∙ ap (forgets_referent c.args.object) c.move_to.ensures))
-    (rest-begun c.args.object Untracked c.args.heap.now).names
+returns-clause-names g c = (rest-begun c.args.object Untracked c.args.heap.now _ _ c.move_to.ensures c.lose_own_referent.ensures).names

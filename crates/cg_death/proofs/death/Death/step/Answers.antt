@@ -30,7 +30,7 @@ returns-clause-steps g c =
       nothing = λ over. none_left c.args.self.now.object c.turn-turn.result c.turn-turn.new.heap (c.turn-turn.ensures.takes.ends (c.turn-turn.ensures.over over));
       gone = c.turn-turn.ensures.over;
     } in
-    step-turned c.args.script.now c.args.heap.now c.turn-turn.new.heap c.args.self.now.object c.args.self.now.phase tops c.turn-turn.result.answer rests
+    step-turned c.args.script.now c.args.heap.now c.turn-turn.new.heap c.args.self.now.object tops c.turn-turn.result.answer c.args.self.now.phase rests
     c.turn-turn.ensures.takes.steps c.args.self.now.release c.next_reference.new.release c.in_default.ensures
 
 pub returns-clause-over : goal.returns-clause-over
