@@ -8,8 +8,8 @@ use Rattle.cg_snapshot.specs.declared.question.Question.{Question}
 use Rattle.cg_snapshot.specs.declared.question.Question.TheVariants as questions
 use Rattle.cg_snapshot.specs.Text.{question_text}
 use Rattle.cg_ask.specs.Dying.{Dies}
-use Rattle.cg_ask.specs.Asked.{outside_at, IsGone, IsShortest, HasNone}
-use Rattle.cg_ask.specs.Answers.{rows_text, line, totals_of, nothing_more, way_text, IsReason, by_path, by_none, IsTold, TellsReferrer, TellsHidden, TellsLost, TellsGone, TellsKept}
+use Rattle.cg_ask.specs.Asked.{outside_at, IsGone, IsShortest}
+use Rattle.cg_ask.specs.Answers.{rows_text, line, totals_of, nothing_more, way_text, IsReason, by_path, IsTold, TellsReferrer, TellsHidden, TellsLost, TellsGone, TellsKept}
 use Rattle.cg_ask.specs.Marked.{AppendsRows, MarkJust, flags_of}
 use Rattle.cg_ask.specs.Told.{AppendsReason, AppendsTold, AppendsAnswer, AppendsWhole}
 use Rattle.cg_ask.specs.Totals.{AppendsGone}
@@ -85,6 +85,3 @@ gone_told ms places gone dead old mid new t g d h put = record {
 pub reason_path : (ms : List Member) (without path : List ℕ) (object : ℕ) (old new : List ℕ) → IsShortest ms without path object → new ≡ old ++ way_text ms path
     → AppendsReason ms without object old new
 reason_path ms without path object old new shortest put = record { text = way_text ms path; reason = by_path path shortest refl; appended = put }
-
-pub reason_none : (ms : List Member) (without : List ℕ) (object : ℕ) (old new : List ℕ) → HasNone ms without object → new ≡ old ++ line (codes "none") [] → AppendsReason ms without object old new
-reason_none ms without object old new none put = record { text = line (codes "none") []; reason = by_none none refl; appended = put }

@@ -1,7 +1,6 @@
 -- Facts of the top call, for a source that reveals its bytes.
-use Rattle.std.proofs.Common.{◌≡◌, ◌⊎◌, inl, inr, refl, sym, ◌∙◌, ap, subst, ◌<◌, ◌≤◌, ◌+◌, ℕ, zero, suc, List, [], ◌∷◌, ◌++◌, length, take, drop, get_or, Option, None, Some, IfSome, arith, length-append, append-nil, append_assoc, take-append-drop, take_all}
+use Rattle.std.proofs.Common.{◌≡◌, ◌⊎◌, inl, inr, refl, sym, ◌∙◌, ap, subst, ◌<◌, ◌≤◌, ◌+◌, ℕ, List, [], ◌∷◌, ◌++◌, length, take, drop, get_or, Option, None, Some, IfSome, arith, length-append, append-nil, append_assoc, take-append-drop, take_all}
 use Rattle.std.specs.Prelude.{codes}
-use Rattle.std.specs.List.{AllByRecursion}
 use Rattle.std.proofs.lemmas.Bool.{cases_lt}
 use Rattle.std.proofs.lemmas.List.{take_more}
 use Rattle.std.specs.Io.KnownBytes.{Appends, Keeps, Consumes, IsAtEnd}
@@ -11,7 +10,7 @@ use Rattle.cg_graph.proofs.Members.{either}
 use Rattle.cg_snapshot.specs.declared.heap.Member.{Member}
 use Rattle.cg_snapshot.specs.declared.question.Question.{Question}
 use Rattle.cg_snapshot.specs.declared.reading.Snapshot.{Snapshot}
-use Rattle.cg_snapshot.specs.Text.{Spells, IsBadLine, IsAsked}
+use Rattle.cg_snapshot.specs.Text.{Spells, IsBadLine}
 use Rattle.cg_ask.specs.Answers.{line, Answers, AnswersAll}
 use Rattle.cg_ask.specs.Faults.{IsFirstFault, AreRight}
 use Rattle.cg_ask.specs.Told.{AppendsWhole}
@@ -74,9 +73,6 @@ front_after a b c xs ys wrote part = record {
 all_front : (a b : Option (List ℕ)) (xs : List ℕ) → Appends a b xs → AppendsFront a b xs
 all_front a b xs wrote = record { front = xs; rest = []; whole = sym (append-nil xs); appended = wrote }
 
-statuses_differ : {P : Type 0} (s t : AskStatus) → s ≡ t → (s ≡ t → ⊥) → P
-statuses_differ s t e f = absurd (f e)
-
 module _ (ms : List Member) (qs : List Question) (before : Option (List ℕ)) (faults : ℕ) where
   -- memory ran out
   pub so_memory : (k : ℕ) (now : Option (List ℕ)) (later : ℕ) → WroteAnswers ms (take k qs) before now → AnswersSo ms qs status.OutOfMemory before now faults later
@@ -113,11 +109,6 @@ module _ (ms : List Member) (qs : List Question) (before : Option (List ℕ)) (f
     cause = λ e. absurd (cc);
     only = inl refl;
   }
-
-next_asked : (count : ℕ) (qs : List Question) (k : ℕ) (q : Question) → AllByRecursion (IsAsked count) qs → k < length qs → q ≡ get_or qs k q → IsAsked count q
-next_asked count [] k q h within is = absurd (omega (arith, within))
-next_asked count (p ∷ qs) zero q h within is = subst (IsAsked count) (sym is) h.0
-next_asked count (p ∷ qs) (suc k) q h within is = next_asked count qs k q h.1 (omega (arith, within)) is
 
 -- The outcome of a snapshot.
 module _ (s : Snapshot) (before now : Option (List ℕ)) (faults later : ℕ) where

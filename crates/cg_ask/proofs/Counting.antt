@@ -1,5 +1,5 @@
 -- Numbers of members, and how often they occur in lists.
-use Rattle.std.proofs.Common.{◌≡◌, refl, sym, ◌∙◌, ap, ℕ, zero, suc, ◌+◌, ◌-◌, ◌<◌, ◌≤◌, ◌^◌, Bool, true, false, ◌⊎◌, inl, inr, List, [], ◌∷◌, ◌++◌, length, take, drop, map, Some, arith, get_or, set, replicate, take_all, append-nil, length-append}
+use Rattle.std.proofs.Common.{◌≡◌, refl, sym, ◌∙◌, ap, ℕ, zero, suc, ◌+◌, ◌-◌, ◌<◌, ◌≤◌, ◌^◌, Bool, true, false, ◌⊎◌, inl, inr, List, [], ◌∷◌, ◌++◌, length, take, drop, Some, arith, get_or, set, replicate, take_all, append-nil, length-append}
 use Rattle.std.specs.Prelude.{if◌then◌else◌, slice_get}
 use Rattle.std.specs.List.{concat}
 use Rattle.std.proofs.lemmas.Bool.{cases_eq, cases_lt}
@@ -8,10 +8,10 @@ use Rattle.std.proofs.lemmas.List.Folds.{concat-append}
 use Rattle.cg_graph.specs.Member.{Includes}
 use Rattle.cg_graph.specs.Holdings.{occurrences}
 use Rattle.cg_graph.proofs.Members.{either, Includes-append_cases}
+use Rattle.cg_graph.proofs.Objects.{occurrences-append}
 use Rattle.cg_search.specs.Places.{Marks, is_marked}
 use Rattle.cg_search.specs.Counts.{Adds, targets_from}
-use Rattle.cg_search.proofs.Places.{occurrences-append}
-use Rattle.cg_search.proofs.Counting.{few_occurrences, targets_all}
+use Rattle.cg_search.proofs.Counting.{few_occurrences, targets_all, past_end, zeros}
 use Rattle.cg_snapshot.specs.declared.heap.Member.{Member}
 use Rattle.cg_ask.specs.Asked.{rows_of, words_of, references_of, all_words_of, degrees_of, degree_at, outside_at, all_told}
 use Rattle.cg_ask.specs.Counted.{CountEach, IsCounts, AreOutside}
@@ -19,10 +19,9 @@ use Rattle.cg_ask.specs.declared.counts.Counts.{Counts}
 
 -- a subset of the nodes has at most as many targets
 pub targets_few : (x : ℕ) (marks : List Bool) (rows : List (List ℕ)) → occurrences x (targets_from marks rows) ≤ occurrences x (concat rows)
-targets_few x [] rows = omega arith
-targets_few x (m ∷ marks) [] = omega arith
 targets_few x (true ∷ marks) (r ∷ rows) = omega (arith, occurrences-append x r (targets_from marks rows), occurrences-append x r (concat rows), targets_few x marks rows)
 targets_few x (false ∷ marks) (r ∷ rows) = omega (arith, occurrences-append x r (concat rows), targets_few x marks rows)
+targets_few x xs rows = omega arith
 
 bits : (a b : Bool) → (a ≡ true → b ≡ true) → (x : ℕ) (r s t : List ℕ) → occurrences x s ≤ occurrences x t → occurrences x ((if a then r else []) ++ s) ≤ occurrences x ((if b then r else []) ++ t)
 bits true true h x r s t le = omega (arith, occurrences-append x r s, occurrences-append x r t, le)
@@ -33,19 +32,17 @@ bits false false h x r s t le = le
 -- more nodes have more targets
 pub targets_mono : (x : ℕ) (marks others : List Bool) (rows : List (List ℕ)) → length others ≡ length rows → ((i : ℕ) → Marks marks i → Marks others i)
     → occurrences x (targets_from marks rows) ≤ occurrences x (targets_from others rows)
-targets_mono x [] others rows long h = omega arith
-targets_mono x (a ∷ marks) others [] long h = omega arith
 targets_mono x (a ∷ marks) [] (r ∷ rows) long h = absurd (omega (arith, long))
 targets_mono x (a ∷ marks) (b ∷ others) (r ∷ rows) long h =
     bits a b (λ e. some_is b (h 0 (ap Some e))) x r (targets_from marks rows) (targets_from others rows) (targets_mono x marks others rows (omega (arith, long)) (λ i m. h (suc i) m))
   where
     some_is : (c : Bool) → Some c ≡ Some true → c ≡ true
     some_is c e = cc
+targets_mono x xs others rows long h = omega arith
 
 pub targets_none : (n : ℕ) (rows : List (List ℕ)) → targets_from (replicate n false) rows ≡ []
-targets_none zero rows = refl
-targets_none (suc n) [] = refl
 targets_none (suc n) (r ∷ rows) = targets_none n rows
+targets_none n rows = refl
 
 -- one more node is marked
 pub targets_set : (x : ℕ) (marks : List Bool) (rows : List (List ℕ)) (at : ℕ) → at < length rows → length marks ≡ length rows → is_marked marks at ≡ false
@@ -81,22 +78,12 @@ pub record CountsSo (count : ℕ) (rows : List (List ℕ)) (at : ℕ) (counts : 
   pub len : length counts ≡ count
   pub each : (i : ℕ) → i < count → get_or counts i 0 ≡ occurrences i (concat (take at rows))
 
-zeros : (n i : ℕ) → ◌≡◌ {A = ℕ} (get_or (replicate n 0) i 0) 0
-zeros zero i = refl
-zeros (suc n) zero = refl
-zeros (suc n) (suc i) = zeros n i
-
 pub so_first : (count : ℕ) (rows : List (List ℕ)) (counts : List ℕ) → counts ≡ replicate count 0 → CountsSo count rows 0 counts
 so_first count rows counts is = record { len = ap (λ (xs : List ℕ). length xs) is ∙ length-replicate count 0; each = λ i within. ap (λ (xs : List ℕ). get_or xs i 0) is ∙ zeros count i }
 
 concat_next : (rows : List (List ℕ)) (k : ℕ) (row : List ℕ) → k < length rows → row ≡ get_or rows k row → concat (take (k + 1) rows) ≡ concat (take k rows) ++ row
 concat_next rows k row within is =
     ap concat (take_more rows k row within ∙ ap (λ (r : List ℕ). take k rows ++ r ∷ []) (sym is)) ∙ concat-append (take k rows) (row ∷ []) ∙ ap (λ t. concat (take k rows) ++ t) (append-nil row)
-
-past_end : (xs : List ℕ) (i : ℕ) → length xs ≤ i → get_or xs i 0 ≡ 0
-past_end [] i h = refl
-past_end (x ∷ xs) zero h = absurd (omega (arith, h))
-past_end (x ∷ xs) (suc i) h = past_end xs i (omega (arith, h))
 
 concat_room : (rows : List (List ℕ)) (k : ℕ) (row : List ℕ) → k < length rows → row ≡ get_or rows k row → length (concat (take k rows)) + length row ≤ length (concat rows)
 concat_room rows k row within is =
@@ -139,11 +126,6 @@ row_read ms at m within is = get_or-map (λ (k : Member). k.refs) ms at m [] wit
 
 pub words_read : (ms : List Member) (at : ℕ) (m : Member) → at < length ms → m ≡ get_or ms at m → get_or (words_of ms) at [] ≡ m.untold
 words_read ms at m within is = get_or-map (λ (k : Member). k.untold) ms at m [] within ∙ ap (λ (k : Member). k.untold) (sym is)
-
--- the rows with untold words as references
-pub rows-all_told : (ms : List Member) → rows_of (all_told ms) ≡ map (λ m. m.refs ++ m.untold) ms
-rows-all_told [] = refl
-rows-all_told (m ∷ ms) = ap (λ t. (m.refs ++ m.untold) ∷ t) (rows-all_told ms)
 
 pub degrees-all_told : (ms : List Member) → degrees_of (all_told ms) ≡ degrees_of ms
 degrees-all_told [] = refl
@@ -198,9 +180,8 @@ outside_next ms c at outside new m told holds counts within is read less pushed 
 
     last : (xs : List ℕ) (y i : ℕ) → i ≡ length xs → get_or (xs ++ y ∷ []) i 0 ≡ y
     last [] y zero e = refl
-    last [] y (suc i) e = absurd (omega (arith, e))
-    last (x ∷ xs) y zero e = absurd (omega (arith, e))
     last (x ∷ xs) y (suc i) e = last xs y i (omega (arith, e))
+    last xs y n e = absurd (omega (arith, e))
 
     front : (xs : List ℕ) (y i : ℕ) → i < length xs → get_or (xs ++ y ∷ []) i 0 ≡ get_or xs i 0
     front [] y i low = absurd (omega (arith, low))

@@ -4,10 +4,11 @@ use Rattle.std.proofs.lemmas.List.{length-set, length-map, length-replicate}
 use Rattle.std.proofs.lemmas.Option.{slice_get_within, slice_get-get_or}
 use Rattle.cg_graph.specs.Member.{Includes}
 use Rattle.cg_graph.specs.Holdings.{occurrences}
-use Rattle.cg_graph.proofs.Members.{either}
+use Rattle.cg_graph.proofs.Members.{either, cases_of}
+use Rattle.cg_graph.proofs.Objects.{occurrences-append}
 use Rattle.cg_search.specs.Places.{Marks, is_marked}
 use Rattle.cg_search.specs.Counts.{targets_from}
-use Rattle.cg_search.proofs.Places.{occurrences-append, occurrences-same, occurs, occurs_in, unmarked}
+use Rattle.cg_search.proofs.Places.{occurrences-same, occurs, occurs_in, unmarked}
 use Rattle.cg_snapshot.specs.declared.heap.Member.{Member}
 use Rattle.cg_ask.specs.Asked.{rows_of, references_of, degrees_of, degree_at}
 use Rattle.cg_ask.specs.Dying.{IsClosed, Dies}
@@ -63,11 +64,9 @@ module _ (ms : List Member) (given : List Bool) (right : AreRight ms false) (sam
         omega (arith, slice_get_within dead at true on, h.long)
 
     off : is_marked h.done at ≡ false
-    off = by (is_marked h.done at) refl
-      where
-        by : (b : Bool) → is_marked h.done at ≡ b → is_marked h.done at ≡ false
-        by true e = absurd (let one : mark_at h.done at ≡ 1 = ap (λ b. cond {A = ℕ} b 1 0) e in omega (arith, one, not_done))
-        by false e = e
+    off = either (cases_of (is_marked h.done at))
+        (λ e. absurd (let one : mark_at h.done at ≡ 1 = ap (λ b. cond {A = ℕ} b 1 0) e in omega (arith, one, not_done)))
+        (λ e. e)
 
     abbrev now_done : List Bool
     now_done = set h.done at true

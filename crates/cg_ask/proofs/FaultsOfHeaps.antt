@@ -1,6 +1,5 @@
 -- The faults of a heap, and what follows if there are none.
-use Rattle.std.proofs.Common.{◌≡◌, sym, subst, ℕ, ◌+◌, ◌-◌, ◌<◌, ◌≤◌, Bool, true, false, List, [], length, Option, Some, None, arith, get_or}
-use Rattle.std.specs.Prelude.{IfSome, IfNone}
+use Rattle.std.proofs.Common.{◌≡◌, sym, subst, ℕ, ◌+◌, ◌-◌, ◌<◌, ◌≤◌, Bool, true, false, List, [], length, arith, get_or, ap}
 use Rattle.std.proofs.lemmas.Bool.{cases_eq, cases_lt}
 use Rattle.std.proofs.lemmas.List.{length-map}
 use Rattle.std.proofs.lemmas.Option.{slice_get_within, get_or_from_slice_get}
@@ -16,6 +15,10 @@ use Rattle.cg_ask.specs.Asked.{rows_of, words_of, references_of, all_words_of, d
 use Rattle.cg_ask.specs.Faults.{IsWellNamed, IsCovered, IsRight, HasFault, misnamed, too_low, low_with_words, AreRight}
 use Rattle.cg_ask.proofs.Counting.{concat_row, degree_read, row_read, words_read}
 use Rattle.cg_ask.proofs.Marking.{member_of}
+
+-- equal lists are equally long
+pub long : {A : Type 0} {xs ys : List A} → xs ≡ ys → length xs ≡ length ys
+long e = ap length e
 
 -- a heap without faults
 module _ (ms : List Member) (with_words : Bool) (right : AreRight ms with_words) where
@@ -35,10 +38,6 @@ module _ (ms : List Member) (with_words : Bool) (right : AreRight ms with_words)
   pub covered_all : (i : ℕ) → occurrences i (references_of ms) ≤ degree_at ms i
   covered_all i = either (cases_lt i (length ms)) (λ l. (right i l).covered)
       (λ g. omega (arith, absent_from (references_of ms) i (λ m. absurd (let l = refs_within i m in omega (arith, l, g)))))
-
-  -- a heap that is right with untold words is right without
-  pub right_without : AreRight ms false
-  right_without i within = let r = right i within in record { names = r.names; covered = r.covered; covered_with = λ e. absurd (cc) }
 
 -- facts read from a member
 module _ (ms : List Member) (with_words : Bool) (at : ℕ) (m : Member) (within : at < length ms) (is : m ≡ get_or ms at m) where
@@ -87,23 +86,6 @@ module _ (ms : List Member) (with_words : Bool) (at : ℕ) (m : Member) (within 
 -- The members so far are right.
 pub right_more : (ms : List Member) (with_words : Bool) (at : ℕ) → ((i : ℕ) → i < at → IsRight ms with_words i) → IsRight ms with_words at → (i : ℕ) → i < at + 1 → IsRight ms with_words i
 right_more ms with_words at h r i below = either (cases_eq i at) (λ e. subst (λ j. IsRight ms with_words j) (sym e) r) (λ n. h i (omega (arith, below, n)))
-
-pub if_some : {A : Type 0} (o : Option A) (x : A) (P : A → Type 0) → o ≡ Some x → IfSome o P → P x
-if_some {A = A} o x P e h = go o e h
-  where
-    go : (p : Option A) → p ≡ Some x → IfSome p P → P x
-    go None f k = absurd (cc)
-    go (Some y) f k = subst P (same y x f) k
-      where
-        same : (a b : A) → Some a ≡ Some b → a ≡ b
-        same a b g = cc
-
-pub if_none : {A : Type 0} (o : Option A) (P : Type 0) → o ≡ None → IfNone o P → P
-if_none {A = A} o P e h = go o e h
-  where
-    go : (p : Option A) → p ≡ None → IfNone p P → P
-    go None f k = k
-    go (Some y) f k = absurd (cc)
 
 pub right_all : (ms : List Member) (with_words : Bool) (at : ℕ) → length ms ≤ at → ((i : ℕ) → i < at → IsRight ms with_words i) → AreRight ms with_words
 right_all ms with_words at end h i within = h i (omega (arith, within, end))

@@ -3,12 +3,13 @@ use Rattle.std.proofs.Common.{◌≡◌, refl, sym, ◌∙◌, ap, subst, ℕ, z
 use Rattle.std.specs.Prelude.{◌↔◌}
 use Rattle.std.proofs.lemmas.Bool.{cases_eq, cases_lt, ltb-true, lt-ltb}
 use Rattle.std.proofs.lemmas.List.{length-set, length-replicate, get_or_read_under}
-use Rattle.std.proofs.lemmas.Option.{slice_get_within}
+use Rattle.std.proofs.lemmas.Option.{slice_get_within, same_Some}
 use Rattle.cg_graph.specs.Member.{Includes}
 use Rattle.cg_graph.proofs.Members.{either}
 use Rattle.cg_search.specs.Places.{Marks, is_marked}
 use Rattle.cg_search.proofs.Places.{slice_get-set_same, slice_get-set_other, unmarked, includes_more, includes_first, includes_last}
 use Rattle.cg_search.proofs.Edges.{marks_of_is, is_of_marks}
+use Rattle.cg_search.proofs.Counting.{past_end}
 use Rattle.cg_snapshot.specs.Text.{AreMembers}
 use Rattle.cg_ask.specs.Marked.{MarkJust}
 
@@ -24,9 +25,8 @@ is_or_not marks i = by (is_marked marks i) refl
 
 -- two lists of marks, combined place by place
 abbrev pub zipped : (Bool → Bool → Bool) → List Bool → List Bool → List Bool
-zipped f [] others = []
-zipped f (a ∷ marks) [] = []
 zipped f (a ∷ marks) (b ∷ others) = f a b ∷ zipped f marks others
+zipped f xs others = []
 
 zipped_suc : (f : Bool → Bool → Bool) (marks others : List Bool) (k : ℕ) (d : Bool) → k < length marks → length marks ≡ length others
     → zipped f (take (suc k) marks) (take (suc k) others) ≡ zipped f (take k marks) (take k others) ++ f (get_or marks k d) (get_or others k d) ∷ []
@@ -66,15 +66,12 @@ only a b = a && not b
 abbrev pub any : Bool → Bool → Bool
 any a b = a || b
 
-some_is : (a b : Bool) → Some a ≡ Some b → a ≡ b
-some_is a b e = cc
-
 pub only_at : (marks others : List Bool) (i : ℕ) → length marks ≡ length others → Marks (zipped only marks others) i ↔ (Marks marks i × ¬ Marks others i)
 only_at [] others i long = (λ m. absurd (cc), λ m. absurd (let h = m.0 in cc))
 only_at (a ∷ marks) [] i long = absurd (omega (arith, long))
 only_at (a ∷ marks) (b ∷ others) zero long = (
-  λ m. let p = only_true a b (some_is (a && not b) true m) in (ap Some p.0, λ e. p.1 (some_is b true e)),
-  λ m. ap Some (true_only a b (some_is a true m.0) (λ e. m.1 (ap Some e))),
+  λ m. let p = only_true a b (same_Some (a && not b) true m) in (ap Some p.0, λ e. p.1 (same_Some b true e)),
+  λ m. ap Some (true_only a b (same_Some a true m.0) (λ e. m.1 (ap Some e))),
 )
 only_at (a ∷ marks) (b ∷ others) (suc i) long = only_at marks others i (omega (arith, long))
 
@@ -89,13 +86,12 @@ true_any false b (inr h) = h
 
 pub any_at : (marks others : List Bool) (i : ℕ) → length marks ≡ length others → Marks (zipped any marks others) i ↔ (Marks marks i ⊎ Marks others i)
 any_at [] [] i long = (λ m. absurd (cc), λ m. either m (λ e. absurd (cc)) (λ e. absurd (cc)))
-any_at [] (b ∷ others) i long = absurd (omega (arith, long))
-any_at (a ∷ marks) [] i long = absurd (omega (arith, long))
 any_at (a ∷ marks) (b ∷ others) zero long = (
-  λ m. either (any_true a b (some_is (a || b) true m)) (λ e. inl (ap Some e)) (λ e. inr (ap Some e)),
-  λ m. ap Some (true_any a b (either m (λ e. inl (some_is a true e)) (λ e. inr (some_is b true e)))),
+  λ m. either (any_true a b (same_Some (a || b) true m)) (λ e. inl (ap Some e)) (λ e. inr (ap Some e)),
+  λ m. ap Some (true_any a b (either m (λ e. inl (same_Some a true e)) (λ e. inr (same_Some b true e)))),
 )
 any_at (a ∷ marks) (b ∷ others) (suc i) long = any_at marks others i (omega (arith, long))
+any_at xs list i long = absurd (omega (arith, long))
 
 pub just_only : (marks others left : List Bool) → length marks ≡ length others → left ≡ zipped only marks others → MarkJust (length marks) (λ i. Marks marks i × ¬ Marks others i) left
 just_only marks others left long is = subst (λ (ms : List Bool). MarkJust (length marks) (λ i. Marks marks i × ¬ Marks others i) ms) (sym is)
@@ -104,13 +100,6 @@ just_only marks others left long is = subst (λ (ms : List Bool). MarkJust (leng
 pub just_any : (marks others left : List Bool) → length marks ≡ length others → left ≡ zipped any marks others → MarkJust (length marks) (λ i. Marks marks i ⊎ Marks others i) left
 just_any marks others left long is = subst (λ (ms : List Bool). MarkJust (length marks) (λ i. Marks marks i ⊎ Marks others i) ms) (sym is)
     (record { len = length-zipped any marks others long; just = λ i. any_at marks others i long })
-
--- marks that represent the same set
-pub just_same : (count : ℕ) (P Q : ℕ → Type 0) (marks : List Bool) → MarkJust count P marks → ((i : ℕ) → i < count → P i → Q i) → ((i : ℕ) → Q i → P i) → MarkJust count Q marks
-just_same count P Q marks h there back = record {
-  len = h.len;
-  just = λ i. (λ m. there i (omega (arith, slice_get_within marks i true m, h.len)) ((h.just i).0 m), λ q. (h.just i).1 (back i q));
-}
 
 pub just_all : (count : ℕ) (marks : List Bool) → marks ≡ replicate count true → MarkJust count (λ i. i < count) marks
 just_all count marks is = subst (λ (ms : List Bool). MarkJust count (λ i. i < count) ms) (sym is) (record {
@@ -187,9 +176,8 @@ so_next at f marks new b is value h = record {
   where
     last : (xs : List Bool) (y : Bool) (i : ℕ) → i ≡ length xs → get_or (xs ++ y ∷ []) i false ≡ y
     last [] y zero e = refl
-    last [] y (suc i) e = absurd (omega (arith, e))
-    last (x ∷ xs) y zero e = absurd (omega (arith, e))
     last (x ∷ xs) y (suc i) e = last xs y i (omega (arith, e))
+    last xs y n e = absurd (omega (arith, e))
 
     front : (xs : List Bool) (y : Bool) (i : ℕ) → i < length xs → get_or (xs ++ y ∷ []) i false ≡ get_or xs i false
     front [] y i low = absurd (omega (arith, low))
@@ -207,11 +195,6 @@ marks_all count at f P marks end low means within h =
         λ p. let below = within i p in marks_of_is marks i (h.each i (omega (arith, below, same)) ∙ (means i below).1 p),
       );
     }
-
-past_end : (xs : List ℕ) (i : ℕ) → length xs ≤ i → get_or xs i 0 ≡ 0
-past_end [] i h = refl
-past_end (x ∷ xs) zero h = absurd (omega (arith, h))
-past_end (x ∷ xs) (suc i) h = past_end xs i (omega (arith, h))
 
 pub below_all : (numbers others : List ℕ) (marks : List Bool) (at : ℕ) → length numbers ≡ length others → length numbers ≤ at → at ≤ length numbers
     → MarksSo at (λ i. nat_lt (get_or numbers i 0) (get_or others i 0)) marks → MarkJust (length numbers) (λ i. get_or numbers i 0 < get_or others i 0) marks

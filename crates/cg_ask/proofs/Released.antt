@@ -7,9 +7,10 @@ use Rattle.std.proofs.lemmas.List.Sums.{sum_by-set}
 use Rattle.std.proofs.lemmas.Option.{slice_get_within, slice_get_read, get_or_from_slice_get}
 use Rattle.cg_graph.specs.Member.{Includes}
 use Rattle.cg_graph.specs.Holdings.{occurrences}
-use Rattle.cg_graph.proofs.Members.{either, Includes-append_left, Includes-append_right, Includes-append_cases}
+use Rattle.cg_graph.proofs.Members.{either, Includes-append_left, Includes-append_right, Includes-append_cases, cases_of}
+use Rattle.cg_graph.proofs.Objects.{occurrences-append}
 use Rattle.cg_search.specs.Places.{Marks, is_marked}
-use Rattle.cg_search.proofs.Places.{occurrences-append, occurrences-same, occurrences-other, slice_get-set_same, slice_get-set_other, occurs_in}
+use Rattle.cg_search.proofs.Places.{occurrences-same, occurrences-other, slice_get-set_same, slice_get-set_other, occurs_in}
 use Rattle.cg_search.proofs.Edges.{marks_of_is, is_of_marks}
 use Rattle.cg_ask.specs.Released.{Releases, WaitOnce, mark_at}
 
@@ -18,18 +19,14 @@ pub mark_on : (marks : List Bool) (i : ℕ) → Marks marks i → mark_at marks 
 mark_on marks i m = ap (λ b. cond {A = ℕ} b 1 0) (is_of_marks marks i m)
 
 pub mark_off : (marks : List Bool) (i : ℕ) → (¬ Marks marks i) → mark_at marks i ≡ 0
-mark_off marks i n = by (is_marked marks i) refl
-  where
-    by : (b : Bool) → is_marked marks i ≡ b → mark_at marks i ≡ 0
-    by true e = absurd (n (marks_of_is marks i e))
-    by false e = ap (λ b. cond {A = ℕ} b 1 0) e
+mark_off marks i n = either (cases_of (is_marked marks i))
+    (λ e. absurd (n (marks_of_is marks i e)))
+    (λ e. ap (λ b. cond {A = ℕ} b 1 0) e)
 
 pub on_mark : (marks : List Bool) (i : ℕ) → 0 < mark_at marks i → Marks marks i
-on_mark marks i h = by (is_marked marks i) refl
-  where
-    by : (b : Bool) → is_marked marks i ≡ b → Marks marks i
-    by true e = marks_of_is marks i e
-    by false e = absurd (let none : mark_at marks i ≡ 0 = ap (λ b. cond {A = ℕ} b 1 0) e in omega (arith, none, h))
+on_mark marks i h = either (cases_of (is_marked marks i))
+    (λ e. marks_of_is marks i e)
+    (λ e. absurd (let none : mark_at marks i ≡ 0 = ap (λ b. cond {A = ℕ} b 1 0) e in omega (arith, none, h)))
 
 pub mark_few : (marks : List Bool) (i : ℕ) → mark_at marks i ≤ 1
 mark_few marks i = by (is_marked marks i)
@@ -170,10 +167,6 @@ releases_next row left mid now dead then last waits wait queue k within a b =
 pub releases_all : (row left now : List ℕ) (dead last : List Bool) (waits queue : List ℕ) (k : ℕ) → length row ≤ k → Releases (take k row) left dead waits now
     last queue → Releases row left dead waits now last queue
 releases_all row left now dead last waits queue k end h = subst (λ (ts : List ℕ). Releases ts left dead waits now last queue) (take_all k row end) h
-
--- the marked places, each once
-pub waits_none : (marks : List Bool) → (i : ℕ) → occurrences i [] ≡ mark_at (take 0 marks) i
-waits_none marks i = refl
 
 -- The marked places below one.
 abbrev pub WaitBelow : List Bool → ℕ → List ℕ → Type 0

@@ -6,7 +6,7 @@ use Rattle.std.proofs.lemmas.List.{take_more}
 use Rattle.std.proofs.lemmas.Option.{slice_get_within}
 use Rattle.std.proofs.lemmas.Grind.{flat_map-append}
 use Rattle.cg_graph.specs.Member.{Includes}
-use Rattle.cg_graph.proofs.Members.{either, Includes-append_left, Includes-append_right, Includes-append_cases}
+use Rattle.cg_graph.proofs.Members.{either, Includes-append_left, Includes-append_right, Includes-append_cases, cases_of}
 use Rattle.cg_search.specs.Places.{Marks, is_marked}
 use Rattle.cg_search.proofs.Edges.{marks_of_is, is_of_marks}
 use Rattle.cg_snapshot.specs.Rows.{spaced, all_spaced}
@@ -95,11 +95,9 @@ flag_of P marks i ns just is = by (is_marked marks i) refl
 
 pub of_flag : (P : Type 0) (marks : List Bool) (i : ℕ) (ns : List ℕ) → (Marks marks i ↔ P) → IsFlag P ns → ns ≡ flags_of marks i
 of_flag P marks i _ just (yes p) = sym (ap (λ b. (cond {A = ℕ} b 1 0) ∷ []) (is_of_marks marks i (just.1 p)))
-of_flag P marks i _ just (no n) = by (is_marked marks i) refl
-  where
-    by : (b : Bool) → is_marked marks i ≡ b → 0 ∷ [] ≡ flags_of marks i
-    by true e = absurd (n (just.0 (marks_of_is marks i e)))
-    by false e = sym (ap (λ b. (cond {A = ℕ} b 1 0) ∷ []) e)
+of_flag P marks i _ just (no n) = either (cases_of (is_marked marks i))
+    (λ e. absurd (n (just.0 (marks_of_is marks i e))))
+    (λ e. sym (ap (λ b. (cond {A = ℕ} b 1 0) ∷ []) e))
 
 -- marked members, with another mark: lost and stuck, gone and dead
 pub flagged_same : (count : ℕ) (P Q : ℕ → Type 0) (marks others : List Bool) (word old new : List ℕ) (R : ℕ → List ℕ → Type 0) → MarkJust count P marks

@@ -2,11 +2,10 @@
 use Rattle.std.proofs.Common.{◌≡◌, ◌⊎◌, inl, inr, ◌<◌, ℕ, ◌≤◌, List, ◌++◌, length, length-append, append-nil, Option, None, Some, IfSome, sym, ap, subst, ◌∙◌, arith}
 use Rattle.std.proofs.lemmas.Bool.{cases_lt}
 use Rattle.std.specs.Io.KnownBytes.{Consumes, IsAtEnd}
-use Rattle.cg_cert.specs.Statuses.{ToldVerdict, ToldFront, RowText, verdict_row, large_row, AnswersRecords, IsCutShort, status_of}
+use Rattle.cg_cert.specs.Statuses.{ToldFront, RowText, verdict_row, large_row, AnswersRecords, IsCutShort, status_of}
 use Rattle.cg_cert.specs.declared.run.TheConstants.{LIMIT}
 use Rattle.cg_cert.specs.Judged.{Judges}
 use Rattle.cg_cert.specs.declared.check.Verdict.{Verdict}
-use Rattle.cg_cert.specs.declared.check.Verdict.TheVariants as verdicts
 use Rattle.cg_cert.specs.declared.status.CheckStatus.{CheckStatus}
 use Rattle.cg_cert.specs.declared.status.CheckStatus.TheVariants as status
 
@@ -23,19 +22,12 @@ module _ (left after : Option (List ℕ)) (bytes : List ℕ) (took : Consumes le
         | inr many ↦ subst P (sym t) (longer ys many here)
       ]
 
-  pub told_verdict : (answer : CheckStatus) (before now : Option (List ℕ)) → ToldVerdict answer bytes before now → IfSome left (λ bs. ToldVerdict answer bs before now)
-  told_verdict answer before now h = told (λ bs. ToldVerdict answer bs before now) h (λ more many r. absurd (omega (arith, many, r.few)))
-
   longer_row : (more text : List ℕ) → LIMIT ≤ length bytes → RowText bytes text → RowText (bytes ++ more) text
   longer_row more _ many (verdict_row verdict few judges) = absurd (omega (arith, many, few))
   longer_row more _ many (large_row large) = large_row (omega (arith, many, length-append bytes more))
 
   pub told_front : (before now : Option (List ℕ)) → ToldFront bytes before now → IfSome left (λ bs. ToldFront bs before now)
   told_front before now wrote = told (λ bs. ToldFront bs before now) wrote (λ more many w. record { text = w.text; row = longer_row more w.text many w.row; wrote = w.wrote })
-
-  pub told_answers : (answer : CheckStatus) → AnswersRecords bytes answer → IfSome left (λ bs. AnswersRecords bs answer)
-  told_answers answer says =
-      told (λ bs. AnswersRecords bs answer) says (λ more many s. (λ few. absurd (omega (arith, many, few, length-append bytes more)), λ large. s.1 many))
 
 -- if neither source nor sink failed, only lack of memory cuts a check short
 pub complete : (answer : CheckStatus) (SourceRose SinkRose Told : Type 0) → (answer ≡ status.ReadFault → SourceRose) → (answer ≡ status.WriteFault → SinkRose) → IsCutShort answer ⊎ Told
@@ -48,8 +40,3 @@ complete answer SourceRose SinkRose Told read write (inl (inr (inr e))) no_sourc
 -- the status of a verdict
 pub answers_of : (bytes : List ℕ) (answer : CheckStatus) (v : Verdict) → length bytes < LIMIT → Judges bytes v → answer ≡ status_of v → AnswersRecords bytes answer
 answers_of bytes answer v short judges is = (λ few. record { verdict = v; judges = judges; status_is = is }, λ many. absurd (omega (arith, short, many)))
-
--- a verdict has one of two statuses
-pub status_cases : (answer : CheckStatus) (v : Verdict) → answer ≡ status_of v → (answer ≡ status.Yes) ⊎ (answer ≡ status.No)
-status_cases answer (verdicts.Yes n) is = inl is
-status_cases answer (verdicts.No g c) is = inr is

@@ -1,5 +1,5 @@
 -- A graph by positions is the graph: rows and edges, counts, paths, and the sets found.
-use Rattle.std.proofs.Common.{◌≡◌, refl, sym, ◌∙◌, ap, subst, ℕ, zero, suc, ◌<◌, Bool, true, false, inl, inr, List, [], ◌∷◌, ◌++◌, length, Option, Some, None, arith, map}
+use Rattle.std.proofs.Common.{◌≡◌, refl, sym, ◌∙◌, ap, subst, ℕ, suc, ◌<◌, Bool, true, false, inl, inr, List, [], ◌∷◌, ◌++◌, length, Option, Some, None, arith, map}
 use Rattle.std.specs.Prelude.{◌↔◌, slice_get, option_map}
 use Rattle.std.specs.List.{concat}
 use Rattle.std.proofs.lemmas.Bool.{cases_eq}
@@ -12,6 +12,7 @@ use Rattle.cg_graph.specs.Reach.{Reach, first, next}
 use Rattle.cg_graph.proofs.Members.{either, Includes-append_left, Includes-append_right, Includes-append_cases, Includes-map, Includes-map_cases}
 use Rattle.cg_search.specs.Places.{Marks, Leads, begins, follows}
 use Rattle.cg_search.proofs.Places.{includes_at, place_in, occurrences-same, occurrences-other}
+use Rattle.cg_search.proofs.Trails.{get_below}
 use Rattle.cg_records.specs.declared.graph.Member.{Member}
 use Rattle.cg_cert.specs.Judged.{serials_of, references_of, edges_of, IsHeld, IsMarked}
 use Rattle.cg_cert.specs.Positions.{ArePlacedOnce, names_in, IsRowOf, AreRowsOf, MarksAll, CountTargets, CountReferences, ExceedEach}
@@ -26,12 +27,6 @@ mapped_at f xs i x at = slice_get-map f xs i ∙ ap (option_map f) at
 
 pub from_mapped : {A B : Type 0} (f : A → B) (xs : List A) (i : ℕ) (y : B) → slice_get (map f xs) i ≡ Some y → (x : A) × (slice_get xs i ≡ Some x) × (f x ≡ y)
 from_mapped f xs i y at = some_mapped f (slice_get xs i) y (sym (slice_get-map f xs i) ∙ at)
-
--- an element exists below the length
-pub something_at : {A : Type 0} (xs : List A) (i : ℕ) → i < length xs → (x : A) × (slice_get xs i ≡ Some x)
-something_at [] i within = absurd (omega (arith, within))
-something_at (x ∷ xs) zero within = (x, refl)
-something_at (x ∷ xs) (suc i) within = something_at xs i (omega (arith, within))
 
 -- an edge is a reference of a member
 edge_in : (members : List Member) (m : Member) (p : ℕ) → Includes members m → Includes m.refs p → Includes (edges_of members) (record { from = m.serial; to = p })
@@ -62,8 +57,6 @@ module _ (names refs row : List ℕ) (is : IsRowOf names refs row) where
 -- all rows represent all references
 pub rows_joined : (names : List ℕ) (members : List Member) (rows : List (List ℕ)) → AreRowsOf names members rows → IsRowOf names (references_of members) (concat rows)
 rows_joined names [] [] e = refl
-rows_joined names [] (r ∷ rows) e = absurd (cc)
-rows_joined names (m ∷ members) [] e = absurd (cc)
 rows_joined names (m ∷ members) (r ∷ rows) e =
     let head : names_in names r ≡ map Some m.refs = cc in
     let tail : map (names_in names) rows ≡ map (λ n. map Some n.refs) members = cc in
@@ -71,12 +64,11 @@ rows_joined names (m ∷ members) (r ∷ rows) e =
     ∙ ap (λ (os : List (Option ℕ)). os ++ names_in names (concat rows)) head
     ∙ ap (λ (os : List (Option ℕ)). map Some m.refs ++ os) (rows_joined names members rows tail)
     ∙ sym (map-append Some m.refs (references_of members))
+rows_joined names xs list e = absurd (cc)
 
 -- a position is a target as often as its name is a reference
 pub counted : (names : List ℕ) → ArePlacedOnce names → (refs row : List ℕ) → IsRowOf names refs row → (i o : ℕ) → slice_get names i ≡ Some o → occurrences i row ≡ occurrences o refs
 counted names once [] [] e i o at = refl
-counted names once [] (j ∷ row) e i o at = absurd (cc)
-counted names once (p ∷ refs) [] e i o at = absurd (cc)
 counted names once (p ∷ refs) (j ∷ row) e i o at =
     let head : slice_get names j ≡ Some p = cc in
     let tail : names_in names row ≡ map Some refs = cc in
@@ -84,6 +76,7 @@ counted names once (p ∷ refs) (j ∷ row) e i o at =
     either (cases_eq j i)
     (λ same. occurrences-same i j row same ∙ ap suc rest ∙ sym (occurrences-same o p refs (same_Some p o (sym head ∙ ap (slice_get names) same ∙ at))))
     (λ differs. occurrences-other i j row differs ∙ rest ∙ sym (occurrences-other o p refs (λ e. differs (once o j i (head ∙ ap Some e) at))))
+counted names once xs list e i o at = absurd (cc)
 
 -- a graph by positions
 module _ (members : List Member) (rows : List (List ℕ)) (once : ArePlacedOnce (serials_of members)) (are : AreRowsOf (serials_of members) members rows) where
@@ -171,8 +164,6 @@ module _ (members : List Member) (rows : List (List ℕ)) (once : ArePlacedOnce 
 -- marks that agree are equal
 pub same_marks : (a b : List Bool) → length a ≡ length b → ((i : ℕ) → Marks a i ↔ Marks b i) → a ≡ b
 same_marks [] [] long agree = refl
-same_marks [] (y ∷ b) long agree = absurd (omega (arith, long))
-same_marks (x ∷ a) [] long agree = absurd (omega (arith, long))
 same_marks (x ∷ a) (y ∷ b) long agree = heads x y (agree 0) (same_marks a b (omega (arith, long)) (λ i. agree (suc i)))
   where
     heads : (u v : Bool) → (Marks (u ∷ a) 0 ↔ Marks (v ∷ b) 0) → a ≡ b → ◌≡◌ {A = List Bool} (u ∷ a) (v ∷ b)
@@ -180,6 +171,7 @@ same_marks (x ∷ a) (y ∷ b) long agree = heads x y (agree 0) (same_marks a b 
     heads false false e rest = ap (λ (xs : List Bool). false ∷ xs) rest
     heads true false e rest = let clash = e.0 refl in absurd (cc)
     heads false true e rest = let clash = e.1 refl in absurd (cc)
+same_marks xs list long agree = absurd (omega (arith, long))
 
 -- a set was found correctly exactly if its marks are the computed ones
 pub finds_same : (names serials : List ℕ) (P : ℕ → Type 0) (marks found : List Bool) → MarksAll names serials marks → length found ≡ length names
@@ -195,6 +187,6 @@ finds_same names serials P marks found all long is named inside = (there, back)
 
     back : ((o : ℕ) → Includes serials o ↔ P o) → found ≡ marks
     back agree = same_marks found marks (long ∙ sym all.len) (λ i. (
-      λ m. let (o, at) = something_at names i (omega (arith, long, slice_get_within found i true m)) in (all.marked i o at).1 ((agree o).1 ((is i o at).0 m)),
-      λ m. let (o, at) = something_at names i (omega (arith, all.len, slice_get_within marks i true m)) in (is i o at).1 ((agree o).0 ((all.marked i o at).0 m)),
+      λ m. let (o, at) = get_below names i (omega (arith, long, slice_get_within found i true m)) in (all.marked i o at).1 ((agree o).1 ((is i o at).0 m)),
+      λ m. let (o, at) = get_below names i (omega (arith, all.len, slice_get_within marks i true m)) in (is i o at).1 ((agree o).0 ((all.marked i o at).0 m)),
     ))

@@ -1,20 +1,20 @@
 -- Names and their positions: the table, rows and marks.
-use Rattle.std.proofs.Common.{◌≡◌, refl, sym, ◌∙◌, ap, subst, ℕ, zero, suc, ◌+◌, ◌<◌, Bool, true, false, cond, ◌⊎◌, inl, inr, List, [], ◌∷◌, ◌++◌, length, take, drop, Option, Some, None, is_some, arith, get_or, map, set, replicate}
+use Rattle.std.proofs.Common.{◌≡◌, refl, sym, ◌∙◌, ap, subst, ℕ, zero, suc, ◌+◌, ◌<◌, Bool, true, false, cond, ◌⊎◌, inl, inr, List, [], ◌∷◌, ◌++◌, length, take, drop, Option, Some, None, is_some, arith, get_or, map, set}
 use Rattle.std.specs.Prelude.{slice_get, IfSome, IfNone}
-use Rattle.std.specs.Global.{Vec}
 use Rattle.std.specs.Ordering.{nat_cmp}
 use Rattle.std.specs.Cmp.{unsigned_tied}
 use Rattle.std.specs.BTreeMap.{BTreeMap, get, Updates}
 use Rattle.std.proofs.lemmas.Bool.{cases_eq, eq-eqb, ne_eqb}
-use Rattle.std.proofs.lemmas.List.{take-append-drop, take_more, drop_more, map-append, get_or-map, take-map, length-replicate, length-map, length-take, length-set}
+use Rattle.std.proofs.lemmas.List.{take-append-drop, take_more, drop_more, map-append, get_or-map, take-map, length-map, length-take, length-set}
 use Rattle.std.proofs.lemmas.Option.{same_Some, slice_get_within, slice_get_read, none-some}
 use Rattle.cg_graph.specs.Member.{Includes}
 use Rattle.cg_graph.specs.Holdings.{occurrences}
 use Rattle.cg_graph.proofs.Members.{either, Includes-append_left, Includes-append_right}
-use Rattle.cg_search.proofs.Places.{snoc_cases, snoc_old, snoc_new, includes_at, place_in, includes_more, includes_first, includes_last, slice_get-set_same, slice_get-set_other, unmarked, occurs, occurs_in, occurrences-append, occurrences-same, occurrences-other}
+use Rattle.cg_graph.proofs.Objects.{occurrences-append}
+use Rattle.cg_search.proofs.Places.{snoc_cases, snoc_old, snoc_new, includes_at, place_in, includes_more, includes_first, includes_last, slice_get-set_same, slice_get-set_other, occurs, occurs_in, occurrences-same, occurrences-other}
 use Rattle.cg_records.specs.declared.graph.Member.{Member}
 use Rattle.cg_cert.specs.Judged.{IsOnceEach, serials_of, references_of}
-use Rattle.cg_cert.specs.Positions.{Locates, IsPositionOf, AreNames, IsSetOf, names_in, IsRowOf, AreRowsOf, MarksAll, rows_in}
+use Rattle.cg_cert.specs.Positions.{Locates, IsPositionOf, AreNames, IsSetOf, IsRowOf, MarksAll}
 
 -- a repeated element
 twice : (xs : List ℕ) (k d : ℕ) → k < length xs → Includes (take k xs) (get_or xs k d) → IsOnceEach xs → ⊥
@@ -84,28 +84,6 @@ row_more names serials row k at d within found so =
     ∙ sym (map-append Some (take k serials) (get_or serials k d ∷ []))
     ∙ sym (ap (map Some) (take_more serials k d within))
 
--- one more row
-pub rows_more : (names : List ℕ) (members : List Member) (rows : List (List ℕ)) (k : ℕ) (d : Member) (row : List ℕ) → k < length members
-    → IsRowOf names (get_or members k d).refs row → AreRowsOf names (take k members) rows
-    → AreRowsOf names (take (k + 1) members) (rows ++ row ∷ [])
-rows_more names members rows k d row within is so =
-    map-append (names_in names) rows (row ∷ [])
-    ∙ ap (λ (os : List (List (Option ℕ))). os ++ names_in names row ∷ []) so
-    ∙ ap (λ (o : List (Option ℕ)). map refs_named (take k members) ++ o ∷ []) is
-    ∙ sym (map-append refs_named (take k members) (get_or members k d ∷ []))
-    ∙ sym (ap (map refs_named) (take_more members k d within))
-  where
-    refs_named : Member → List (Option ℕ)
-    refs_named m = map Some m.refs
-
--- the same of vectors
-pub rows_pushed : (names : List ℕ) (members : List Member) (rows now : List (Vec ℕ)) (row : Vec ℕ) (k : ℕ) (d : Member) → k < length members
-    → IsRowOf names (get_or members k d).refs row.items → AreRowsOf names (take k members) (rows_in rows)
-    → now ≡ rows ++ row ∷ [] → AreRowsOf names (take (k + 1) members) (rows_in now)
-rows_pushed names members rows now row k d within is so pushed =
-    subst (λ (rs : List (List ℕ)). AreRowsOf names (take (k + 1) members) rs) (sym (ap rows_in pushed ∙ map-append (λ (v : Vec ℕ). v.items) rows (row ∷ [])))
-    (rows_more names members (rows_in rows) k d row.items within is so)
-
 -- the references of one member are among those of all
 pub references_among : (members : List Member) (m : Member) (o : ℕ) → Includes members m → Includes m.refs o → Includes (references_of members) o
 references_among [] m o h r = absurd h
@@ -116,16 +94,6 @@ references_among (k ∷ members) m o (inr h) r = Includes-append_right k.refs (r
 pub record MarksFirst (names done : List ℕ) (marks : List Bool) : Type 0 where
   pub marked : MarksAll names done marks
   pub set : IsSetOf names done
-
--- no mark is set yet
-pub marks_none : (names : List ℕ) (members : ℕ) (marks : List Bool) → members ≡ length names → marks ≡ replicate members false → MarksFirst names [] marks
-marks_none names members marks long is = record {
-  marked = record {
-    len = ap length is ∙ length-replicate members false ∙ long;
-    marked = λ i o at. (λ h. absurd (unmarked members i (ap (λ ms. slice_get ms i) (sym is) ∙ h)), λ h. absurd h);
-  };
-  set = record { once = λ o. omega arith; named = λ o h. absurd h };
-}
 
 -- a serial whose mark is set has occurred before
 pub marked_before : (names serials : List ℕ) (k d at : ℕ) (marks : List Bool) → k < length serials → MarksFirst names (take k serials) marks

@@ -10,12 +10,13 @@ use Rattle.cg_graph.specs.Member.{Includes}
 use Rattle.cg_graph.specs.Reach.{Reach, first, next}
 use Rattle.cg_search.specs.Places.{Marks, Leads}
 use Rattle.cg_search.proofs.Places.{includes_at}
+use Rattle.cg_search.proofs.Trails.{get_below}
 use Rattle.cg_records.specs.declared.graph.Member.{Member}
 use Rattle.cg_records.specs.declared.graph.Graph.{Graph}
 use Rattle.cg_cert.specs.declared.graph.Located.{Located}
 use Rattle.cg_cert.specs.Judged.{serials_of, edges_of, IsMember, IsHeld, IsMarked, IsLost, IsSetAside, FindsLost, FindsSetAside}
 use Rattle.cg_cert.specs.Positions.{IsLocated, ExceedEach, rows_in}
-use Rattle.cg_cert.proofs.Judging.{mapped_at, from_mapped, something_at, held_there, held_back, marked_there, marked_back, led_there, reach_back, finds_same, targets_within}
+use Rattle.cg_cert.proofs.Judging.{mapped_at, from_mapped, held_there, held_back, marked_there, marked_back, led_there, reach_back, finds_same, targets_within}
 
 all_marked : (n i : ℕ) → i < n → Marks (replicate n true) i
 all_marked n i within = slice_get-get_or (replicate n true) i false (omega (arith, within, length-replicate n true)) ∙ ap Some (get_or-replicate n i true false within)
@@ -50,7 +51,7 @@ module _ (g : Graph) (l : Located) (located : IsLocated g l) where
             clash false here is m = absurd (cc)
 
         back : IsLost g.members o → Marks (map not found) i
-        back lost = let (b, here) = something_at found i (omega (arith, long, slice_get_within (serials_of g.members) i o at, length-map g.members (λ (m : Member). m.serial))) in go b here
+        back lost = let (b, here) = get_below found i (omega (arith, long, slice_get_within (serials_of g.members) i o at, length-map g.members (λ (m : Member). m.serial))) in go b here
           where
             go : (b : Bool) → slice_get found i ≡ Some b → Marks (map not found) i
             go true here = absurd (lost.no_path ((reaches i o at).0 here))

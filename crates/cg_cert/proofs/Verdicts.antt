@@ -4,7 +4,7 @@ use Rattle.std.specs.List.{All}
 use Rattle.std.proofs.lemmas.List.{take-append-drop, take_more, length-append}
 use Rattle.std.proofs.lemmas.List.Concat.{flat_map-append}
 use Rattle.std.proofs.lemmas.List.Elements.{All-append, All-cons, All-nil}
-use Rattle.std.proofs.lemmas.List.{append-nil, append_assoc, take_all}
+use Rattle.std.proofs.lemmas.List.{append-nil, append_assoc}
 use Rattle.cg_graph.proofs.Members.{Includes-append_right}
 use Rattle.cg_graph.specs.Member.{Includes}
 use Rattle.cg_records.specs.declared.graph.Graph.{Graph}
@@ -85,10 +85,6 @@ right_so_far_more records k r graphs more within read so here count few = record
   right = right_more records k r within read so.right here;
 }
 
--- none has a fault
-pub all_right : (records : List Rec) (k : ℕ) → length records ≤ k → All IsRight (all_parts (take k records)) → All IsRight (all_parts records)
-all_right records k end h = subst (λ (rs : List Rec). All IsRight (all_parts rs)) (take_all k records end) h
-
 -- the verdict on bytes is that on their records
 pub judged : (bytes : List ℕ) (records : List Rec) (v : Verdict) → IsTextOf records bytes → JudgesRecords records v → Judges bytes v
 judged bytes records (Yes n) text h = subst (λ m. Judges bytes (Yes m)) (sym h.0) (right records text h.1)
@@ -102,22 +98,19 @@ no_fault p code h (loses a b f) = f h.lost
 no_fault p code h (sets_aside a b c d f) = f (h.set_aside d)
 
 one_code : (p : Part) (c d : ℕ) → HasFault p c → HasFault p d → c ≡ d
-one_code p c d (misnamed f) (misnamed g) = refl
 one_code p c d (misnamed f) (too_low n g) = absurd (f n)
 one_code p c d (misnamed f) (loses n o g) = absurd (f n)
 one_code p c d (misnamed f) (sets_aside n o q r g) = absurd (f n)
 one_code p c d (too_low n f) (misnamed g) = absurd (g n)
-one_code p c d (too_low n f) (too_low m g) = refl
 one_code p c d (too_low n f) (loses m o g) = absurd (f o)
 one_code p c d (too_low n f) (sets_aside m o q r g) = absurd (f o)
 one_code p c d (loses n o f) (misnamed g) = absurd (g n)
 one_code p c d (loses n o f) (too_low m g) = absurd (g o)
-one_code p c d (loses n o f) (loses m q g) = refl
 one_code p c d (loses n o f) (sets_aside m q r s g) = absurd (f r)
 one_code p c d (sets_aside n o q r f) (misnamed g) = absurd (g n)
 one_code p c d (sets_aside n o q r f) (too_low m g) = absurd (g o)
 one_code p c d (sets_aside n o q r f) (loses m s g) = absurd (g q)
-one_code p c d (sets_aside n o q r f) (sets_aside m s t u g) = refl
+one_code p c d other one = refl
 
 each_right : (ps : List Part) → All IsRight ps → (p : Part) → Includes ps p → IsRight p
 each_right [] h p m = absurd m

@@ -1,11 +1,11 @@
 -- Tallies line by line.
-use Rattle.std.proofs.Common.{◌≡◌, ℕ, ◌+◌, ◌-◌, ◌<◌, ◌≤◌, ◌^◌, min, Bool, true, false, List, [], ◌∷◌, ◌++◌, length, codes, append_assoc, append-nil, length-append, refl, sym, ap, subst, ◌∙◌, arith}
+use Rattle.std.proofs.Common.{◌≡◌, ℕ, ◌+◌, ◌-◌, ◌<◌, ◌≤◌, min, Bool, List, [], ◌∷◌, ◌++◌, length, codes, append_assoc, length-append, refl, sym, ap, ◌∙◌, arith}
 use Rattle.std.specs.List.{count_by, sum_by}
-use Rattle.std.proofs.lemmas.List.Sums.{count_by-le-length, fold-append}
+use Rattle.std.proofs.lemmas.List.Sums.{fold-append}
 use Rattle.cg_script.specs.Pieces.{lines_of}
 use Rattle.cg_generator.specs.declared.counts.Tally.{Tally}
-use Rattle.cg_generator.specs.Tallies.{begins, collected_in, largest, tally_of, tally_of_lines}
-use Rattle.cg_generator.specs.Counting.{one_if, with_line, IsCount}
+use Rattle.cg_generator.specs.Tallies.{begins, collected_in, largest, tally_of_lines}
+use Rattle.cg_generator.specs.Counting.{one_if, with_line}
 
 count_more : {A : Type 0} (p : A → Bool) (xs : List A) (x : A) → count_by p (xs ++ x ∷ []) ≡ count_by p xs + one_if (p x)
 count_more p xs x = fold-append (λ a y. a + one_if (p y)) 0 xs (x ∷ [])
@@ -19,14 +19,6 @@ tally_more lines line =
     largest = omega (arith, sum_more collected_in lines line) in
     let all : length (lines ++ line ∷ []) ≡ length lines + 1 = length-append lines (line ∷ []) in
     rw (count_more (begins (codes "made ")) lines line, count_more (begins (codes "free ")) lines line, count_more (begins (codes "gc stop ")) lines line, collected, all) refl
-
--- no count exceeds that of the lines
-pub tally_counts : (lines : List (List ℕ)) → IsCount (tally_of_lines lines)
-tally_counts lines = record {
-  made = count_by-le-length (begins (codes "made ")) lines;
-  freed = count_by-le-length (begins (codes "free ")) lines;
-  stops = count_by-le-length (begins (codes "gc stop ")) lines;
-}
 
 -- The lines before the rest of a text were counted.
 pub record CountedSoFar (text rest : List ℕ) (counts : Tally) : Type 0 where
@@ -43,6 +35,3 @@ counted_more text rest line behind counts next cut shorter so_far is = record {
   counted = is ∙ ap (λ t. with_line t line) so_far.counted ∙ sym (tally_more so_far.done line);
   few = omega (arith, so_far.few, shorter, length-append so_far.done (line ∷ []));
 }
-
-pub counted_all : (text rest : List ℕ) (counts : Tally) → rest ≡ [] → CountedSoFar text rest counts → counts ≡ tally_of text
-counted_all text rest counts none so_far = so_far.counted ∙ ap tally_of_lines (sym (append-nil so_far.done) ∙ ap (λ r. so_far.done ++ lines_of r) (sym none) ∙ sym so_far.lines)

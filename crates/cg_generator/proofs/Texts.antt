@@ -1,7 +1,6 @@
 -- Texts whose bytes arrive one by one.
-use Rattle.std.proofs.Common.{◌≡◌, ℕ, ◌+◌, ◌<◌, ◌==◌, ◌||◌, Bool, true, false, if◌then◌else◌, List, [], ◌∷◌, ◌++◌, length, append_assoc, append-nil, take, drop, take-append-drop, Some, refl, sym, ap, subst, ◌∙◌, arith}
+use Rattle.std.proofs.Common.{◌≡◌, ℕ, ◌+◌, ◌<◌, ◌==◌, ◌||◌, Bool, true, false, if◌then◌else◌, List, [], ◌∷◌, ◌++◌, length, append_assoc, append-nil, take, drop, take-append-drop, Some, refl, sym, ap, ◌∙◌, arith}
 use Rattle.std.specs.List.{list_any}
-use Rattle.std.proofs.lemmas.Bool.Decides.{nat_tests}
 use Rattle.std.proofs.lemmas.List.Folds.{list_any-append}
 use Rattle.cg_io.specs.Causes.{AppendsFront}
 use Rattle.cg_script.specs.Pieces.{lines_of, onto}
@@ -49,23 +48,8 @@ either_first first second now holds is = is ∙ rw holds refl
 pub either_second : (first second now : Bool) → first ≡ false → now ≡ second → now ≡ (first || second)
 either_second first second now fails is = is ∙ rw fails refl
 
-pub not_empty : (size : ℕ) (empty : Bool) → empty ≡ (size == 0) → empty ≡ false → 0 < size
-not_empty size empty is fails = grind (arith, nat_tests, is, fails)
-
 pub seen_nothing : HasSeen [] (tally_of_lines []) false []
 seen_nothing = record { lines = []; front = []; whole = refl; ended = λ later. refl; open_line = refl; counted = refl; refusal = refl }
-
--- one more byte that ends no line
-pub seen_byte : (text line : List ℕ) (counts : Tally) (refused : Bool) (b : ℕ) → (b == 10) ≡ false → HasSeen text counts refused line → HasSeen (text ++ b ∷ []) counts refused (line ++ b ∷ [])
-seen_byte text line counts refused b other s = record {
-  lines = s.lines;
-  front = s.front;
-  whole = ap (λ l. l ++ b ∷ []) s.whole ∙ append_assoc s.front line (b ∷ []);
-  ended = s.ended;
-  open_line = list_any-append is_line_feed line (b ∷ []) ∙ rw (s.open_line, other) refl;
-  counted = s.counted;
-  refusal = s.refusal;
-}
 
 pub seen_line : (text line after : List ℕ) (counts next : Tally) (refused now : Bool) → next ≡ with_line counts line → now ≡ (refused || is_refusal line)
     → after ≡ [] → HasSeen text counts refused line
@@ -96,13 +80,6 @@ module _ (text line : List ℕ) (counts : Tally) (refused : Bool) (s : HasSeen t
       by [] o h n e = absurd (omega (arith, h))
       by (b ∷ bs) o h n e =
           n ∙ ap (λ t. with_line t (b ∷ bs)) s.counted ∙ sym (tally_more s.lines (b ∷ bs)) ∙ ap tally_of_lines (ap (λ l. s.lines ++ l) (sym (last_line b bs o)) ∙ sym e)
-
-  pub seen_ended : length line ≡ 0 → counts ≡ tally_of text
-  seen_ended none = by line none lines_then
-    where
-      by : (l : List ℕ) → length l ≡ 0 → lines_of text ≡ s.lines ++ lines_of l → counts ≡ tally_of text
-      by [] h e = s.counted ∙ ap tally_of_lines (sym (append-nil s.lines) ∙ sym e)
-      by (b ∷ bs) h e = absurd (omega (arith, h))
 
   -- whether a line reports a refusal
   pub seen_refusal : (refused || is_refusal line) ≡ has_refusal text

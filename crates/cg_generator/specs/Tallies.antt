@@ -66,10 +66,6 @@ has_refusal text = list_any is_refusal (lines_of text)
 abbrev pub summary_of : Tally → List ℕ
 summary_of t = codes "summary " ++ decimal t.made ++ codes " " ++ decimal t.freed ++ codes " " ++ decimal t.stops ++ codes " " ++ decimal t.collected ++ codes " " ++ decimal t.lines ++ codes "\n"
 
--- the summary line of a text
-abbrev pub summary_of_text : List ℕ → List ℕ
-summary_of_text text = summary_of (tally_of text)
-
 -- what contracts see of a tallying sink: the text that was written, which it does not store, and the faults so far
 pub record Tallied : Type 0 where
   pub text : List ℕ

@@ -10,13 +10,14 @@ use Rattle.cg_search.specs.Places.{Marks, is_marked}
 use Rattle.cg_search.specs.Counts.{targets_from}
 use Rattle.cg_search.proofs.Edges.{marks_of_is, is_of_marks}
 use Rattle.cg_snapshot.specs.declared.heap.Member.{Member}
+use Rattle.cg_snapshot.proofs.Machine.{are_true}
 use Rattle.cg_ask.specs.Asked.{rows_of, degree_at}
 use Rattle.cg_ask.specs.Dying.{IsClosed, Dies}
 use Rattle.cg_ask.specs.Faults.{AreRight}
 use Rattle.cg_ask.specs.Marked.{MarkJust}
 use Rattle.cg_ask.proofs.Counting.{targets_few, targets_mono, no_degree}
 use Rattle.cg_ask.proofs.FaultsOfHeaps.{covered_all}
-use Rattle.cg_heap_rows.proofs.Tables.{both, marks_to, passes, marks_of, length-marks_to}
+use Rattle.cg_heap_rows.proofs.Tables.{marks_to, passes, marks_of, length-marks_to}
 
 module _ (ms : List Member) (given : List Bool) where
   -- its in-degree, above 0, is the number of its occurrences among the references of the dead
@@ -50,7 +51,7 @@ module _ (ms : List Member) (given : List Bool) where
       len = ap (λ (bs : List Bool). length bs) (sym settled) ∙ length-marks_to (length ms) (is_dying dead);
       given = λ i g. goes_in i (omega (arith, slice_get_within given i true g, long)) (or_left (is_marked given i) (loses_all dead i) (is_of_marks given i g));
       dies = λ i some all. goes_in i (member i some) (or_right (is_marked given i) (loses_all dead i)
-          (both (nat_lt 0 (degree_at ms i)) (occurrences i (targets_from dead (rows_of ms)) == degree_at ms i) (lt-ltb 0 (degree_at ms i) some)
+          (are_true (nat_lt 0 (degree_at ms i)) (occurrences i (targets_from dead (rows_of ms)) == degree_at ms i) (lt-ltb 0 (degree_at ms i) some)
           (eq-eqb (occurrences i (targets_from dead (rows_of ms))) (degree_at ms i) all)));
     }
       where

@@ -7,7 +7,8 @@ use Rattle.cg_graph.proofs.Members.{either, true_or, true_and, or_left, or_right
 use Rattle.cg_search.specs.Places.{Marks, is_marked, Leads, begins, follows}
 use Rattle.cg_search.specs.Counts.{targets_from}
 use Rattle.cg_search.proofs.Edges.{marks_of_is, is_of_marks}
-use Rattle.cg_heap_rows.proofs.Tables.{both, marks_to, passes, marks_of, length-marks_to, target_out, target_in}
+use Rattle.cg_heap_rows.proofs.Tables.{marks_to, passes, marks_of, length-marks_to, target_out, target_in}
+use Rattle.cg_snapshot.proofs.Machine.{are_true}
 
 module _ (starts allowed : List Bool) (rows : List (List ℕ)) where
   -- allowed, and a start or a target of a found one
@@ -35,7 +36,7 @@ module _ (starts allowed : List Bool) (rows : List (List ℕ)) where
     goes_in : (i : ℕ) → Marks allowed i → (is_marked starts i || includes (targets_from found rows) i) ≡ true → Marks found i
     goes_in i a e =
         subst (λ (bs : List Bool). Marks bs i) settled
-        (marks_of (length allowed) (is_next found) i (slice_get_within allowed i true a) (both (is_marked allowed i) (is_marked starts i
+        (marks_of (length allowed) (is_next found) i (slice_get_within allowed i true a) (are_true (is_marked allowed i) (is_marked starts i
         || includes (targets_from found rows) i) (is_of_marks allowed i a) e))
 
     pub found_leads : (i : ℕ) → Leads starts allowed rows i → Marks found i

@@ -26,7 +26,7 @@ use Rattle.cg_heap_rows.proofs.Found.{step, found_in, led, found_long}
 use Rattle.cg_heap_rows.proofs.Dying.{step as dying_step, dead_in, dead_just}
 
 -- whether a member's references and words name members, and its in-degree is consistent
-abbrev is_right : List Member → ℕ → Bool
+abbrev pub is_right : List Member → ℕ → Bool
 is_right ms i = are_below (length ms) (get_or (rows_of ms) i []) && (are_below (length ms) (get_or (words_of ms) i [])
     && nat_lt (occurrences i (references_of ms) + occurrences i (all_words_of ms)) (degree_at ms i + 1))
 

@@ -2,7 +2,7 @@
 use Rattle.std.proofs.Common.{◌≡◌, refl, sym, ◌∙◌, ap, subst, ℕ, zero, suc, ◌<◌, Bool, true, false, cond, ◌&&◌, inl, List, [], ◌∷◌, ◌++◌, length, Some, arith, append-nil}
 use Rattle.std.specs.Prelude.{◌↔◌, slice_get}
 use Rattle.std.proofs.lemmas.Bool.{cases_eq}
-use Rattle.std.proofs.lemmas.Option.{slice_get_within}
+use Rattle.std.proofs.lemmas.Option.{slice_get_within, same_Some}
 use Rattle.cg_graph.specs.Member.{Includes}
 use Rattle.cg_graph.proofs.Members.{either, true_and, Includes-append_left, Includes-append_right, Includes-append_cases}
 use Rattle.cg_search.specs.Places.{Marks}
@@ -30,12 +30,9 @@ pub length-marks_to : (n : ℕ) (test : ℕ → Bool) → length (marks_to n tes
 length-marks_to zero test = refl
 length-marks_to (suc n) test = ap suc (length-marks_to n (λ i. test (suc i)))
 
-some_is : (a b : Bool) → Some a ≡ Some b → a ≡ b
-some_is a b e = cc
-
 pub passes : (n : ℕ) (test : ℕ → Bool) (i : ℕ) → Marks (marks_to n test) i → test i ≡ true
 passes zero test i m = absurd (cc)
-passes (suc n) test zero m = some_is (test 0) true m
+passes (suc n) test zero m = same_Some (test 0) true m
 passes (suc n) test (suc i) m = passes n (λ j. test (suc j)) i m
 
 pub marks_of : (n : ℕ) (test : ℕ → Bool) (i : ℕ) → i < n → test i ≡ true → Marks (marks_to n test) i
@@ -57,9 +54,6 @@ just_to n test P decides below = record {
   len = length-marks_to n test;
   just = λ i. (λ m. (decides i (within n test i m)).0 (passes n test i m), λ p. marks_of n test i (below i p) ((decides i (below i p)).1 p));
 }
-
-pub both : (a b : Bool) → a ≡ true → b ≡ true → (a && b) ≡ true
-both a b p q = ap (λ c. c && b) p ∙ q
 
 -- the meaning of a row
 pub record IsRow (n : ℕ) (test : ℕ → Bool) (tell : ℕ → List ℕ) (m : ℕ) (ns : List ℕ) : Type 0 where
@@ -112,17 +106,14 @@ module _ (test : ℕ → Bool) (numbers : ℕ → List ℕ) where
 
 -- a target of a marked node is in its row
 pub target_out : (marks : List Bool) (rows : List (List ℕ)) (x : ℕ) → Includes (targets_from marks rows) x → (p : ℕ) × (row : List ℕ) × Marks marks p × (slice_get rows p ≡ Some row) × Includes row x
-target_out [] rows x h = absurd h
-target_out (mark ∷ marks) [] x h = absurd h
 target_out (true ∷ marks) (row ∷ rows) x h = either (Includes-append_cases row (targets_from marks rows) x h)
     (λ here. (0, row, refl, refl, here))
     (λ later. let found = target_out marks rows x later in (suc found.0, found.1, found.2, found.3, found.4))
 target_out (false ∷ marks) (row ∷ rows) x h = let found = target_out marks rows x h in (suc found.0, found.1, found.2, found.3, found.4)
+target_out xs rows x h = absurd h
 
 pub target_in : (marks : List Bool) (rows : List (List ℕ)) (p : ℕ) (row : List ℕ) (x : ℕ) → Marks marks p → slice_get rows p ≡ Some row → Includes row x → Includes (targets_from marks rows) x
-target_in [] rows p row x m at h = absurd (cc)
-target_in (mark ∷ marks) [] p row x m at h = absurd (cc)
 target_in (true ∷ marks) (r ∷ rows) zero row x m at h = let same : r ≡ row = cc in Includes-append_left r (targets_from marks rows) x (subst (λ (xs : List ℕ). Includes xs x) (sym same) h)
-target_in (false ∷ marks) (r ∷ rows) zero row x m at h = absurd (cc)
 target_in (true ∷ marks) (r ∷ rows) (suc p) row x m at h = Includes-append_right r (targets_from marks rows) x (target_in marks rows p row x m at h)
 target_in (false ∷ marks) (r ∷ rows) (suc p) row x m at h = target_in marks rows p row x m at h
+target_in xs rows p row x m at h = absurd (cc)

@@ -54,10 +54,6 @@ held_by_one es i e o at here =
     (Includes-append_right (references (take i es)) (entry_references e ++ references (drop (i + 1) es)) o (Includes-append_left (entry_references e)
     (references (drop (i + 1) es)) o (Includes-of (entry_references e) o here))))
 
--- Numbers, one by one.
-pub numbers_none : (number : ℕ → ℕ) (numbers : List (ℕ × ℕ)) → AreNumbers number [] numbers
-numbers_none number numbers o m = absurd m
-
 pub numbers_more : (number : ℕ → ℕ) (objects : List ℕ) (object : ℕ) (old new : List (ℕ × ℕ)) → AreNumbers number objects old
     → ((s : ℕ) → number_of new s ≡ (if object == s then Some (number object) else number_of old s)) → AreNumbers number (objects ++ object ∷ []) new
 numbers_more number objects object old new are now o m = go (cases_eq object o) (Includes-append_cases objects (object ∷ []) o m)

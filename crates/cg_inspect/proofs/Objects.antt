@@ -170,15 +170,8 @@ module _ (store : Store) where
 
   module _ (listed : IsListed store) (idle : IsIdle store) where
     five : (x : Option Place) → count_in_list 0 x + count_in_list 7 x + count_in_list 8 x + count_in_list 9 x + count_in_list 1 x ≤ 1
-    five None = omega arith
-    five (Some Untracked) = omega arith
-    five (Some Frozen) = omega arith
-    five (Some Cand) = omega arith
-    five (Some Seen) = omega arith
-    five (Some Back) = omega arith
-    five (Some Legacy) = omega arith
-    five (Some Pend) = omega arith
     five (Some (Gen i)) = grind (arith, nat_tests)
+    five m = omega arith
 
     abbrev low : List ℕ
     low = list_at store Untracked ++ list_at store (Gen 0)

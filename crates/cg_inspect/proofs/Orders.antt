@@ -3,7 +3,7 @@ use Rattle.std.proofs.Common.{◌≡◌, refl, sym, ◌∙◌, ap, subst, ℕ, �
 use Rattle.std.specs.Prelude.{slice_get}
 use Rattle.std.proofs.lemmas.Bool.{cases_eq, cases_lt}
 use Rattle.std.proofs.lemmas.List.{append-nil, length-reverse}
-use Rattle.std.proofs.lemmas.Option.{slice_get_within}
+use Rattle.std.proofs.lemmas.Option.{slice_get_within, same_Some}
 use Rattle.std.proofs.lemmas.Grind.{reverse_onto}
 use Rattle.cg_graph.specs.declared.Edge.{Edge}
 use Rattle.cg_graph.specs.Member.{Includes}
@@ -15,9 +15,6 @@ use Rattle.cg_graph.specs.Store.{Store}
 use Rattle.cg_inspect.specs.Inspection.{HeldElse, arrows_of}
 use Rattle.cg_inspect.specs.Order.{references_by, position_among, PartsBefore, ComesBefore, ComesFirst}
 use Rattle.cg_inspect.specs.Findings.{RiseBy, FindsInOrder, IsFollowedFirst, StandsFirst, IsNoLater, AreInOrder}
-
-same_some : {X : Type 0} (x y : X) → Some x ≡ Some y → x ≡ y
-same_some x y e = cc
 
 -- At first there are only those that roots hold.
 pub order_first : (refs : ℕ → List ℕ) (Held : ℕ → Type 0) (found : Findings) → IsStart Held found → RiseBy (λ o. o) found → AreInOrder refs found 0
@@ -54,19 +51,17 @@ module _ (refs : ℕ → List ℕ) (found new : Findings) (place o : ℕ) (holde
   stays (Some j) (Some k) p q s = either s (λ l. inl l) (λ r. inr (r.0, (r.1.0, get_left found more j r.1.0 r.1.1, r.1.2)))
 
   before_more : (i p q : ℕ) (d g : Option ℕ) → slice_get found i ≡ Some (p, d) → g ≡ Some place → StandsFirst refs all d p g q
-  before_more i p q None None a e = absurd (cc)
   before_more i p q None (Some k) a e = tt
-  before_more i p q (Some j) None a e = absurd (cc)
-  before_more i p q (Some j) (Some k) a e = let same = same_some k place e in inl (omega (arith, same, h.behind i p j a))
+  before_more i p q (Some j) (Some k) a e = let same = same_Some k place e in inl (omega (arith, same, h.behind i p j a))
+  before_more i p q m None a e = absurd (cc)
 
   among_more : (p q : ℕ) (d g : Option ℕ) → d ≡ Some place → g ≡ Some place → position_among (refs o) p < position_among (refs o) q
       → StandsFirst refs all d p g q
-  among_more p q None g d e less = absurd (cc)
-  among_more p q (Some j) None d e less = absurd (cc)
   among_more p q (Some j) (Some k) d e less =
-      let one = same_some j place d in
-      let two = same_some k place e in
+      let one = same_Some j place d in
+      let two = same_Some k place e in
       inr (one ∙ sym two, ((o, holder), ap (slice_get all) one ∙ get_left found more place (o, holder) at, less))
+  among_more p q m g d e less = absurd (cc)
 
   in_turn : (i k p q : ℕ) (d g : Option ℕ) → i < k → slice_get all i ≡ Some (p, d) → slice_get all k ≡ Some (q, g) → StandsFirst refs all d p g q
   in_turn i k p q d g less a b = elim (get_cases found more i (p, d) a) [
@@ -85,7 +80,7 @@ module _ (refs : ℕ → List ℕ) (found new : Findings) (place o : ℕ) (holde
   behind : (i p j : ℕ) → slice_get all i ≡ Some (p, Some j) → j < place + 1
   behind i p j a = elim (get_cases found more i (p, Some j) a) [
     | inl x ↦ omega (arith, h.behind i p j x)
-    | inr x ↦ omega (arith, same_some j place (by_place x.0 p (Some j) x.2))
+    | inr x ↦ omega (arith, same_Some j place (by_place x.0 p (Some j) x.2))
   ]
 
   no_later : (i p : ℕ) (g : Option ℕ) (j : ℕ) → slice_get all i ≡ Some (p, g) → place ≤ j → IsNoLater g j
@@ -98,7 +93,7 @@ module _ (refs : ℕ → List ℕ) (found new : Findings) (place o : ℕ) (holde
     | inl less ↦ let r = h.first j q p d less before m in (r.0, r.1, get_left found more r.0 (p, r.1) r.2, r.3)
     | inr high ↦
         let same : j ≡ place = omega (arith, low, high) in
-        let one : (q, d) ≡ (o, holder) = same_some (q, d) (o, holder) (sym before ∙ ap (slice_get found) same ∙ at) in
+        let one : (q, d) ≡ (o, holder) = same_Some (q, d) (o, holder) (sym before ∙ ap (slice_get found) same ∙ at) in
         let here : Includes (refs o) p = subst (λ x. Includes (refs x) p) (ap (λ (e : ℕ × Option ℕ). e.0) one) m in
         let in_all = subst (λ (es : Findings). Includes (objects_in es) p) f.finds.is (f.finds.all p here) in
         let named = Includes-map_cases (λ (e : ℕ × Option ℕ). e.0) all p in_all in
@@ -126,10 +121,9 @@ data IsUpTo (refs : ℕ → List ℕ) (t w : List ℕ) : Type 0 where
 -- Paths in order.
 module _ (refs : ℕ → List ℕ) where
   parts_longer : (number : ℕ → ℕ) (xs ys : List ℕ) (a b : ℕ) → PartsBefore number refs xs ys → PartsBefore number refs (xs ++ a ∷ []) (ys ++ b ∷ [])
-  parts_longer number [] ys a b h = absurd h
-  parts_longer number (x ∷ xs) [] a b h = absurd h
   parts_longer number (x ∷ xs) (y ∷ ys) a b (inl less) = inl less
   parts_longer number (x ∷ xs) (y ∷ ys) a b (inr h) = inr (h.0, parts_longer (position_among (refs x)) xs ys a b h.1)
+  parts_longer number xs ys a b h = absurd h
 
   parts_last : (number : ℕ → ℕ) (front : List ℕ) (q a b : ℕ) → position_among (refs q) a < position_among (refs q) b
       → PartsBefore number refs ((front ++ q ∷ []) ++ a ∷ []) ((front ++ q ∷ []) ++ b ∷ [])
@@ -137,8 +131,6 @@ module _ (refs : ℕ → List ℕ) where
   parts_last number (x ∷ front) q a b less = inr (refl, parts_last (position_among (refs x)) front q a b less)
 
   parts_trans : (number : ℕ → ℕ) (xs ys zs : List ℕ) → PartsBefore number refs xs ys → PartsBefore number refs ys zs → PartsBefore number refs xs zs
-  parts_trans number [] ys zs g h = absurd g
-  parts_trans number (x ∷ xs) [] zs g h = absurd g
   parts_trans number (x ∷ xs) (y ∷ ys) [] g h = absurd h
   parts_trans number (x ∷ xs) (y ∷ ys) (z ∷ zs) (inl g) (inl h) = inl (omega (arith, g, h))
   parts_trans number (x ∷ xs) (y ∷ ys) (z ∷ zs) (inl g) (inr h) = inl (subst (λ w. number x < number w) h.0 g)
@@ -149,6 +141,7 @@ module _ (refs : ℕ → List ℕ) where
         parts_trans (position_among (refs x)) xs ys zs g.1
             (subst (λ w. PartsBefore (position_among (refs w)) refs ys zs) (sym g.0) h.1),
       )
+  parts_trans number xs ys zs g h = absurd g
 
   parts_strict : (number : ℕ → ℕ) (xs : List ℕ) → ¬ PartsBefore number refs xs xs
   parts_strict number [] h = absurd h
@@ -182,12 +175,12 @@ module _ (refs : ℕ → List ℕ) where
         let low = slice_get_within h.trails i t at in
         let e = get_below found i (omega (arith, low, h.have.many)) in
         let r = h.have.each i e.0 e.1 in
-        let same : r.0 ≡ t = same_some r.0 t (sym r.1 ∙ at) in
+        let same : r.0 ≡ t = same_Some r.0 t (sym r.1 ∙ at) in
         (e.0, e.1, subst (λ (u : List ℕ). TrailBy h.trails i e.0.0 e.0.1 u) same r.2)
 
     begins_with : (i o : ℕ) (g : Option ℕ) (t : List ℕ) → slice_get found i ≡ Some (o, g) → slice_get h.trails i ≡ Some t
         → (rest : List ℕ) × (t ≡ o ∷ rest)
-    begins_with i o g t at is = let r = trail_at found h.trails h.have i o g at in (r.0, same_some t (o ∷ r.0) (sym is ∙ r.1))
+    begins_with i o g t at is = let r = trail_at found h.trails h.have i o g at in (r.0, same_Some t (o ∷ r.0) (sym is ∙ r.1))
 
     not_empty : (i : ℕ) (t : List ℕ) → slice_get h.trails i ≡ Some t → 0 < length t
     not_empty i t at =
@@ -229,7 +222,7 @@ module _ (refs : ℕ → List ℕ) where
         siblings : (o p : ℕ) → o ≡ a → p ≡ b → slice_get h.trails j ≡ Some s → slice_get h.trails l ≡ Some r → j ≡ l
             → IsFollowedFirst refs found j o p → ComesBefore refs (reverse s ++ a ∷ []) (reverse r ++ b ∷ [])
         siblings o p oa pb first last same by =
-            let one : s ≡ r = same_some s r (sym first ∙ ap (slice_get h.trails) same ∙ last) in
+            let one : s ≡ r = same_Some s r (sym first ∙ ap (slice_get h.trails) same ∙ last) in
             let q = begins_with j by.0.0 by.0.1 s by.1 first in
             let whole : reverse s ≡ reverse q.0 ++ by.0.0 ∷ [] = ap reverse q.1 ∙ reverse_onto q.0 by.0.0 [] in
             let less : position_among (refs by.0.0) a < position_among (refs by.0.0) b =
@@ -266,7 +259,7 @@ module _ (refs : ℕ → List ℕ) where
 
         up_holder : (l : ℕ) (s : List ℕ) → slice_get h.trails l ≡ Some s → l ≤ j → IsUpTo refs s w
         up_holder l s is low = elim (cases_eq l j) [
-          | inl same ↦ subst (λ (x : List ℕ). IsUpTo refs x w) (same_some t s (sym at ∙ ap (slice_get h.trails) (sym same) ∙ is)) up
+          | inl same ↦ subst (λ (x : List ℕ). IsUpTo refs x w) (same_Some t s (sym at ∙ ap (slice_get h.trails) (sym same) ∙ is)) up
           | inr differs ↦
               let less : l < j = omega (arith, low, differs) in
               let no_more = lengthen_get h.trails h.lengthen l j s t is at less in

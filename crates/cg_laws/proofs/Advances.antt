@@ -1,7 +1,7 @@
 -- The forms of a step of an activity without commands left: the end of a frame, or a step of a release, a death or a collection.
 -- Laws that need no more than that go by these forms, not by the phases.
-use Rattle.std.proofs.Common.{◌≡◌, ◌≢◌, refl, ◌∙◌, subst, ℕ, ◌-◌, ◌≤◌, Bool, true, false, inl, inr, ◌⊎◌, List, [], ◌∷◌, ◌++◌, length, length-append, map, Option, Some, None, arith}
-use Rattle.std.specs.Prelude.{◌==◌, if◌then◌else◌, option_and_then, option_to_list, unwrap_or}
+use Rattle.std.proofs.Common.{◌≡◌, ◌≢◌, refl, ◌∙◌, subst, ℕ, ◌-◌, ◌≤◌, Bool, true, false, inl, inr, ◌⊎◌, List, [], ◌∷◌, ◌++◌, length, map, Some, None}
+use Rattle.std.specs.Prelude.{◌==◌, if◌then◌else◌, option_and_then, unwrap_or}
 use Rattle.std.proofs.lemmas.Bool.{eqb-true}
 use Rattle.cg_value.specs.declared.Entry.{Entry}
 use Rattle.cg_value.specs.declared.Place.{Place}
@@ -9,7 +9,7 @@ use Rattle.cg_value.specs.declared.Place.TheVariants.{Untracked, Gen}
 use Rattle.cg_value.specs.declared.Val.TheVariants.{Ref}
 use Rattle.cg_script.specs.declared.Script.{Script}
 use Rattle.cg_graph.specs.Member.{Includes}
-use Rattle.cg_graph.specs.Value.{entry_references, item, reference_in, references}
+use Rattle.cg_graph.specs.Value.{entry_references, item, references}
 use Rattle.cg_graph.specs.Object.{Object, change, entries_of, object_at, serials, with_entries, without}
 use Rattle.cg_graph.proofs.Members.{either, Includes-append_cases}
 use Rattle.cg_machine.specs.declared.event.Event.{Event}
@@ -28,7 +28,7 @@ use Rattle.cg_represents.specs.Orderly.{death_waits, waits_of}
 use Rattle.cg_laws.specs.Laws.{named}
 use Rattle.cg_laws.proofs.Lookups.{references_of_member}
 use Rattle.cg_laws.proofs.Measure.{is_first}
-use Rattle.cg_laws.proofs.Unreferred.{IsLater, later_refl, later_trans}
+use Rattle.cg_laws.proofs.Unreferred.{IsLater, later_refl, later_trans, still_later}
 use Rattle.cg_laws.proofs.Pointwise.{IsOrder, Came, Lasts, came, came_if, came_without, lasts_if, lasts_lives}
 use Rattle.cg_laws.proofs.LinesNameLive.{HasNoReferent, without_lasts}
 
@@ -170,8 +170,7 @@ pub data Advance (script : Script) (v : World) (top : Activity) (below : List Ac
 
 pub continues_idle : (before after : List Object) (a b : Activity) → Continues before after a b → commands_on b ≡ []
 continues_idle before after a b (DeathGoesOn o phase next waits none) = refl
-continues_idle before after a b (DeathClears o weak waiting weaks t first lost) = refl
-continues_idle before after a b (CollectionGoesOn c d same begun early) = refl
+continues_idle before after a b other = refl
 
 -- where changed objects come from, and where they are
 module _ (top : Activity) (tops : List Activity) (lines : List Event) where
@@ -222,7 +221,7 @@ module _ (top : Activity) (tops : List Activity) (lines : List Event) where
   }
 
   same_entry : (es : List Entry) (x : Object) → Becomes tops lines x (with_entries es x)
-  same_entry es x = record { later = record { serial = refl; code = refl; class = refl; referent = inl refl }; referent = inl refl; finalized = λ e. e }
+  same_entry es x = record { later = still_later; referent = inl refl; finalized = λ e. e }
 
   pub changed_becomes : (before after : List Object) → HasChanged top tops lines before after → Came (Becomes tops lines) before after
   changed_becomes = changed_came (Becomes tops lines) becomes top tops lines kept (λ objects s es owns fewer x m e. same_entry es x) (λ is o x e. same_entry _ x)
@@ -247,10 +246,3 @@ pub fewer_references : (es entries : List Entry) → ((e : Entry) → Includes e
 fewer_references [] entries h n m = absurd m
 fewer_references (e ∷ es) entries h n m = either (Includes-append_cases (entry_references e) (references es) n m)
     (references_of_member entries e n (h e (inl refl))) (fewer_references es entries (λ x i. h x (inr i)) n)
-
-pub few_option : (m : Option ℕ) → length (option_to_list m) ≤ 1
-few_option None = omega arith
-few_option (Some n) = omega arith
-
-pub few_entry : (e : Entry) → length (entry_references e) ≤ 2
-few_entry e = omega (arith, length-append (option_to_list (reference_in e.val)) (option_to_list (reference_in e.key)), few_option (reference_in e.val), few_option (reference_in e.key))

@@ -5,35 +5,35 @@ use Rattle.std.specs.Prelude.{◌==◌, ◌&&◌, ◌||◌, nat_le, if◌then◌
 use Rattle.std.proofs.lemmas.Bool.{eqb-false, eqb-true}
 use Rattle.std.proofs.lemmas.List.{length-map}
 use Rattle.std.proofs.lemmas.List.Sums.{count_by-le-length}
-use Rattle.cg_value.specs.declared.Entry.{Entry}
 use Rattle.cg_value.specs.declared.Place.{Place}
 use Rattle.cg_value.specs.declared.Place.TheVariants.{Untracked, Gen, Cand, Seen, Legacy as LegacyPlace, Pend}
 use Rattle.cg_script.specs.declared.Script.{Script}
 use Rattle.cg_graph.specs.Member.{Includes, includes}
 use Rattle.cg_graph.specs.Value.{entry_references, last_entry, without_last}
-use Rattle.cg_graph.specs.Object.{Object, change, serials, entries_of, is_at, is_in_map, is_tracked, is_tuple, marked, object_at, objects_at, same_place, serials_at, with_entries, with_place, with_referent, without}
+use Rattle.cg_graph.specs.Object.{Object, change, serials, entries_of, is_at, is_tracked, marked, object_at, objects_at, same_place, serials_at, with_entries, with_place, with_referent, without}
 use Rattle.cg_graph.proofs.Members.{either, Includes-append_cases, Includes-append_left, Includes-append_right, Includes-filter, Includes-filter_cases, Includes-map, Includes-map_cases}
 use Rattle.cg_machine.specs.declared.event.Event.{Event}
 use Rattle.cg_machine.specs.declared.event.Event.TheVariants.{Alive, Cleared, Collected, Free, GcCollectable, GcSaved, GcStart, GcStop, GcUncollectable, Leave}
 use Rattle.cg_machine.specs.declared.event.FrameSort.{FrameSort}
 use Rattle.cg_machine.specs.declared.event.FrameSort.TheVariants.{Del, Legacy, Callback, Call}
-use Rattle.cg_machine.specs.Program.{legacy_of, profile_of}
-use Rattle.cg_machine.specs.World.{World, Activity, Framed, Releasing, Dying, Collecting, Frame, DyingPhase, Finalizer, AfterFinalizer, Clearing, Calling, AfterCall, LegacyFinalizer, AfterLegacy, Detaching, Emptying, Collection, CollectPhase, Start, WeakClearing, WeakCalling, AfterCallback, AfterRelease, Finalizing, AfterFinalizing, Split, Turns, Turn, AfterTurn, Ending, with_stack, with_change, with_objects}
-use Rattle.cg_machine.specs.Holdings.{collect_holds, in_degree, is_dying}
-use Rattle.cg_machine.specs.Frame.{Transition, frame_end, gives_up_function, begin_death, released, procedure_of}
+use Rattle.cg_machine.specs.Program.{legacy_of}
+use Rattle.cg_machine.specs.World.{World, Activity, Framed, Releasing, Dying, Collecting, Frame, DyingPhase, Finalizer, AfterFinalizer, Clearing, Calling, AfterCall, LegacyFinalizer, AfterLegacy, Detaching, Emptying, Collection, CollectPhase, Start, WeakClearing, WeakCalling, AfterCallback, AfterRelease, Finalizing, AfterFinalizing, Split, Turns, Turn, AfterTurn, Ending, with_stack, with_objects}
+use Rattle.cg_machine.specs.Holdings.{collect_holds}
+use Rattle.cg_machine.specs.Frame.{Transition, frame_end, gives_up_function, released, procedure_of}
 use Rattle.cg_machine.specs.Effects.{gens_line}
 use Rattle.cg_machine.specs.Weak.{has_weak_references, weak_references_if, loses_referent, callback_of}
-use Rattle.cg_machine.specs.Dying.{death_at, has_finalizers, finalizer_to_run, run_finalizer, run_legacy, after_frame, clear_one, call_one, detach_one, empty_one, dying}
-use Rattle.cg_machine.specs.Collect.{all_saved, IsMemberOf, is_saved, begun, collectable, collection_at, lines_if, loses_at_split, get_older, has_none_tracked, merged, merged_place, older, saved, sorted, stats, survived, survivor_count, survivor_place, uncollectable, untrack, untracked_if, StartStep, Survives, WeakClearingStep, calls_back, after_release, looks_at, FinalizingStep, SplitStep, takes_turn, TurnsStep, has_flag, save_all, empties, EndStep, PhaseStep, waits}
+use Rattle.cg_machine.specs.Dying.{death_at, has_finalizers, finalizer_to_run, run_finalizer, run_legacy, after_frame, clear_one, detach_one, empty_one, dying}
+use Rattle.cg_machine.specs.Collect.{all_saved, IsMemberOf, is_saved, begun, collectable, collection_at, lines_if, loses_at_split, get_older, has_none_tracked, merged, merged_place, older, saved, sorted, stats, survived, survivor_count, survivor_place, uncollectable, untrack, untracked_if, Survives, calls_back, after_release, looks_at, takes_turn, has_flag, empties, PhaseStep, waits}
 use Rattle.cg_represents.specs.Orderly.{death_waits}
 use Rattle.cg_machine.specs.Operands.{is_dict}
 use Rattle.cg_laws.proofs.Measure.{is_first}
 use Rattle.cg_represents.proofs.Lists.{taken_member, Reach-inside}
-use Rattle.cg_laws.proofs.Unreferred.{place_later, place_alters}
-use Rattle.cg_laws.proofs.Advances.{Advance, Plainly, WithFrame, HasChanged, NothingChanges, ChangesEach, LosesEntries, GetsEntry, LosesObject, Followed, IsPlaceIn, IsMoved, StaysThere, IsUntracked, IsRevived, IsPlaced, Finalizes, Soon, Late, Owns, OfEmptied, OfCalled, OfTurn, SameCounts, OneLess, BegunCounts, Continues, DeathGoesOn, DeathClears, CollectionGoesOn, TopEnds, GivesFunction, GivesReference, BeginsDeath, TopGoesOn, GivesReferences, OfFinalizer, OfLegacy, OfCallback, IsDeathOf, IsLineOf, NamesThere, Shown, AreLinesOf, Shows, Frees, IsEarly, changed_origin, few_option, few_entry}
+use Rattle.cg_laws.proofs.Unreferred.{place_later, place_alters, still_later, lost_later}
+use Rattle.cg_laws.proofs.Advances.{Advance, Plainly, WithFrame, HasChanged, NothingChanges, ChangesEach, LosesEntries, GetsEntry, LosesObject, Followed, IsPlaceIn, IsMoved, StaysThere, IsUntracked, IsRevived, IsPlaced, Finalizes, Soon, Late, Owns, OfEmptied, OfCalled, OfTurn, SameCounts, OneLess, BegunCounts, Continues, DeathGoesOn, DeathClears, CollectionGoesOn, TopEnds, GivesFunction, GivesReference, BeginsDeath, TopGoesOn, GivesReferences, OfFinalizer, OfLegacy, OfCallback, IsDeathOf, IsLineOf, NamesThere, Shown, AreLinesOf, Shows, Frees, IsEarly, changed_origin}
 use Rattle.cg_laws.proofs.Pointwise.{GoesOn, all_lose_by, all_saved_by}
 use Rattle.cg_laws.proofs.LinesNameLive.{HasNoReferent, came_back, same_lives, filter_lives, weak_lives, without_gone, changed_all, lost_none, none_stays, all_lose_live, all_lose_none}
-use Rattle.cg_laws.proofs.Starting.{either_way}
+use Rattle.cg_laws.proofs.Starting.{called_back_either, turn_either, release_either, own_frame_either, option_either, list_either}
+use Rattle.cg_laws.proofs.MeasureInDeaths.{list_one, references_two}
 
 module _ (before after : List Object) (top : Activity) where
   no_lines : Shown before after top []
@@ -76,7 +76,7 @@ module _ (top : Activity) (tops : List Activity) (lines : List Event) where
       objects (change (λ x. marked (with_place p x)) o objects)
   move_mark p o objects h = ChangesEach (λ x. marked (with_place p x)) (λ x. x.serial == o) objects
       (λ x m t. record {
-        later = record { serial = refl; code = refl; class = refl; referent = inl refl };
+        later = still_later;
         referent = inl refl;
         entries = refl;
         finalized = λ e. refl;
@@ -85,7 +85,7 @@ module _ (top : Activity) (tops : List Activity) (lines : List Event) where
 
   loses : (weak : ℕ) → Includes lines (Cleared weak) → (objects : List Object) → HasChanged top tops lines objects (loses_referent weak objects)
   loses weak told objects = ChangesEach (with_referent None) (λ x. x.serial == weak) objects (λ x m t. record {
-    later = record { serial = refl; code = refl; class = refl; referent = inr refl };
+    later = lost_later;
     referent = inr (inl (subst (λ n. Includes lines (Cleared n)) (sym (eqb-true x.serial weak t)) told));
     entries = refl;
     finalized = λ e. e;
@@ -115,34 +115,26 @@ frame_end_advances script f below v = by_sort f.sort f.function
     leave : AreLinesOf v.objects v.objects (Framed f) (Leave ∷ [])
     leave = Shows (Leave ∷ []) (one_line v.objects v.objects (Framed f) Leave tt (λ n m. absurd m))
 
-    popped : Advance script v (Framed f) below (Leave ∷ []) (with_stack below v)
-    popped = Plainly [] v.objects v.numbers (Leave ∷ []) (TopEnds (Framed f) tt) (NothingChanges v.objects) SameCounts leave
-
     by_sort : (sort : FrameSort) (function : Option ℕ) → Advance script v (Framed f) below (Leave ∷ []) (gives_up_function sort function (with_stack below v))
-    by_sort Del function = popped
-    by_sort Legacy function = popped
-    by_sort Callback function = popped
     by_sort Call function = Plainly (Releasing (option_to_list function) ∷ []) v.objects v.numbers (Leave ∷ []) (GivesFunction f (option_to_list function)
-        (few_option function)) (NothingChanges v.objects) SameCounts leave
+        (list_one function)) (NothingChanges v.objects) SameCounts leave
+    by_sort sort function = Plainly [] v.objects v.numbers (Leave ∷ []) (TopEnds (Framed f) tt) (NothingChanges v.objects) SameCounts leave
 
 pub released_advances : (script : Script) (references : List ℕ) (below : List Activity) (v : World)
     → (let t : Transition = released references below (with_stack (Releasing references ∷ below) v) in Advance script v (Releasing references) below t.0 t.1)
 released_advances script [] below v = Plainly [] v.objects v.numbers [] (TopEnds (Releasing []) tt) (NothingChanges v.objects) SameCounts (Shows [] (no_lines v.objects v.objects (Releasing [])))
-released_advances script (o ∷ references) below v = either_way (Advance script v (Releasing (o ∷ references)) below) (not (is_dying now o) && (in_degree now o == 0)) ([], begin_death o now) ([], now)
-    (Plainly (Dying (record { object = o; phase = Finalizer }) ∷ Releasing references ∷ []) (change dead o v.objects) v.numbers [] (BeginsDeath o references)
+released_advances script (o ∷ references) below v = release_either (Advance script v (Releasing (o ∷ references)) below) o references below v
+    (λ t. Plainly (Dying (record { object = o; phase = Finalizer }) ∷ Releasing references ∷ []) (change dead o v.objects) v.numbers [] (BeginsDeath o references)
     (ChangesEach dead (λ x. x.serial == o) v.objects (λ x m t. record {
-      later = record { serial = refl; code = refl; class = refl; referent = inr refl };
+      later = lost_later;
       referent = inr (inr (inl (ap (λ n. Dying (record { object = n; phase = Finalizer })) (sym (eqb-true x.serial o t)))));
       entries = refl;
       finalized = λ e. e;
       moved = IsUntracked refl;
     })) SameCounts (Shows [] (no_lines v.objects (change dead o v.objects) (Releasing (o ∷ references)))))
-    (Plainly (Releasing references ∷ []) v.objects v.numbers [] (GivesReference o references) (NothingChanges v.objects) SameCounts
+    (λ t. Plainly (Releasing references ∷ []) v.objects v.numbers [] (GivesReference o references) (NothingChanges v.objects) SameCounts
     (Shows [] (no_lines v.objects v.objects (Releasing (o ∷ references)))))
   where
-    now : World
-    now = with_stack (Releasing references ∷ below) v
-
     dead : Object → Object
     dead x = with_referent None (with_place Untracked x)
 
@@ -170,22 +162,11 @@ module _ (script : Script) (o : ℕ) (below : List Activity) (v : World) where
   gives phase next references objects few c h = Plainly (Releasing references ∷ dying_now next ∷ []) objects v.numbers [] (GivesReferences (dying_now phase)
       (dying_now next) references few c tt) h SameCounts (Shows [] (no_lines v.objects objects (dying_now phase)))
 
-  finalizer_advances : (m : Option ℕ) → option_and_then (finalizer_to_run script) (object_at v.objects o) ≡ m → DeathAdvances Finalizer (run_finalizer script o below (at Finalizer) m)
-  finalizer_advances None e = goes_on Finalizer (Clearing []) v.objects (DeathGoesOn o Finalizer (Clearing []) (nothing Finalizer) refl) (NothingChanges v.objects)
-  finalizer_advances (Some p) e = WithFrame (record { sort = Del; proc = p; subject = o; func = None }) (dying_now AfterFinalizer)
-      (change (λ x. marked (with_place (Gen 0) x)) o v.objects) (OfFinalizer o p e (changed_all (λ z. z.finalized ≡ true) (λ x. marked (with_place (Gen 0) x)) o
-      v.objects (λ x. refl))) (DeathGoesOn o Finalizer AfterFinalizer (nothing Finalizer) tt) tt
-      (move_mark (dying_now Finalizer) [] [] (Gen 0) o v.objects (λ x e. IsRevived (subst (Finalizes (dying_now Finalizer)) (sym e) (Soon o)) refl))
-
   after_frame_advances : (phase next : DyingPhase) → Continues v.objects (change (with_place Untracked) o v.objects) (dying_now phase) (dying_now next)
       → DeathAdvances phase (after_frame o next below (at phase))
-  after_frame_advances phase next c = either_way (Advance script v (dying_now phase) below) (in_degree (at next) o == 0) (
-    [],
-    with_change (with_place Untracked)
-        o (at next),
-  ) (Alive o ∷ [], with_stack below (at phase))
-      (goes_on phase next (change (with_place Untracked) o v.objects) c (untracks (dying_now phase) (dying_now next ∷ []) [] o v.objects))
-      (Plainly [] v.objects v.numbers (Alive o ∷ []) (TopEnds (dying_now phase) tt) (NothingChanges v.objects) SameCounts
+  after_frame_advances phase next c = own_frame_either (Advance script v (dying_now phase) below) o next below (at phase)
+      (λ t. goes_on phase next (change (with_place Untracked) o v.objects) c (untracks (dying_now phase) (dying_now next ∷ []) [] o v.objects))
+      (λ t. Plainly [] v.objects v.numbers (Alive o ∷ []) (TopEnds (dying_now phase) tt) (NothingChanges v.objects) SameCounts
       (Shows (Alive o ∷ []) (one_line v.objects v.objects (dying_now phase) (Alive o) tt (its v.objects v.objects (dying_now phase) o refl))))
 
   cleared : (phase : DyingPhase) (weak : ℕ) → Includes (serials v.objects) weak → AreLinesOf v.objects (loses_referent weak v.objects) (dying_now phase) (Cleared weak ∷ [])
@@ -202,47 +183,43 @@ module _ (script : Script) (o : ℕ) (below : List Activity) (v : World) where
       next : DyingPhase
       next = Clearing (waiting ++ (if is_some (callback_of v.objects weak) then weak ∷ [] else []))
 
-  calling_advances : (waiting : List ℕ) → DeathAdvances (Calling waiting) (call_one script o below (at (Calling waiting)) waiting)
-  calling_advances [] = goes_on (Calling []) LegacyFinalizer v.objects (DeathGoesOn o (Calling []) LegacyFinalizer (nothing (Calling [])) tt) (NothingChanges v.objects)
-  calling_advances (weak ∷ waiting) =
+  pub dying_advances : (phase : DyingPhase) → DeathAdvances phase (dying script o phase below (at phase))
+  dying_advances Finalizer = option_either (Advance script v (dying_now Finalizer) below) (run_finalizer script o below (at Finalizer)) (option_and_then (finalizer_to_run script) (object_at v.objects o))
+      (λ e. goes_on Finalizer (Clearing []) v.objects (DeathGoesOn o Finalizer (Clearing []) (nothing Finalizer) refl) (NothingChanges v.objects))
+      (λ p e. WithFrame (record { sort = Del; proc = p; subject = o; func = None }) (dying_now AfterFinalizer)
+      (change (λ x. marked (with_place (Gen 0) x)) o v.objects) (OfFinalizer o p e (changed_all (λ z. z.finalized ≡ true) (λ x. marked (with_place (Gen 0) x)) o
+      v.objects (λ x. refl))) (DeathGoesOn o Finalizer AfterFinalizer (nothing Finalizer) tt) tt
+      (move_mark (dying_now Finalizer) [] [] (Gen 0) o v.objects (λ x e. IsRevived (subst (Finalizes (dying_now Finalizer)) (sym e) (Soon o)) refl)))
+  dying_advances AfterFinalizer = after_frame_advances AfterFinalizer (Clearing []) (DeathGoesOn o AfterFinalizer (Clearing []) (nothing AfterFinalizer) refl)
+  dying_advances (Clearing waiting) = clearing_advances waiting (weak_references_if has_weak_references v.objects o) refl
+  dying_advances (Calling []) = goes_on (Calling []) LegacyFinalizer v.objects (DeathGoesOn o (Calling []) LegacyFinalizer (nothing (Calling [])) tt) (NothingChanges v.objects)
+  dying_advances (Calling (weak ∷ waiting)) =
       let callback = unwrap_or (callback_of v.objects weak) 0 in
       let phase = Calling (weak ∷ waiting) in
       WithFrame (record { sort = Callback; proc = procedure_of (at phase) callback; subject = weak; func = Some callback })
       (dying_now (AfterCall weak callback waiting)) (change (with_entries []) weak v.objects)
       (OfCallback weak (procedure_of (at phase) callback) (inl refl) (inl (inl refl))) (DeathGoesOn o phase (AfterCall weak callback waiting) (λ n m. inr m) tt)
       tt (LosesEntries [] weak v.objects (OfCalled o weak waiting) (λ e m. absurd m))
-
-  legacy_advances : (m : Option ℕ) → option_and_then (legacy_of script) (object_at v.objects o) ≡ m → DeathAdvances LegacyFinalizer (run_legacy script o below (at LegacyFinalizer) m)
-  legacy_advances None e = goes_on LegacyFinalizer Detaching v.objects (DeathGoesOn o LegacyFinalizer Detaching (nothing LegacyFinalizer) tt) (NothingChanges v.objects)
-  legacy_advances (Some p) e = WithFrame (record { sort = Legacy; proc = p; subject = o; func = None }) (dying_now AfterLegacy)
-      (change (with_place (Gen 0)) o v.objects) (OfLegacy o p e) (DeathGoesOn o LegacyFinalizer AfterLegacy (nothing LegacyFinalizer) tt) tt
-      (moves (dying_now LegacyFinalizer) [] [] (Gen 0) o v.objects (λ x e. IsRevived (subst (Finalizes (dying_now LegacyFinalizer)) (sym e) (Late o)) refl))
-
-  detaching_advances : (weaks : List ℕ) → weak_references_if (has_finalizers script) v.objects o ≡ weaks → DeathAdvances Detaching (detach_one o below (at Detaching) weaks)
-  detaching_advances [] e = goes_on Detaching Emptying v.objects (DeathGoesOn o Detaching Emptying (nothing Detaching) tt) (NothingChanges v.objects)
-  detaching_advances (weak ∷ weaks) e = Plainly (dying_now Detaching ∷ []) (loses_referent weak v.objects) v.numbers (Cleared weak ∷ [])
-      (TopGoesOn (dying_now Detaching) (dying_now Detaching) (DeathGoesOn o Detaching Detaching (nothing Detaching) tt) tt)
-      (loses (dying_now Detaching) (dying_now Detaching ∷ []) (Cleared weak ∷ []) weak (inl refl) v.objects) SameCounts
-      (cleared Detaching weak (weak_lives (has_finalizers script) v.objects o weak weaks e))
-
-  emptying_advances : (m : Option Entry) → DeathAdvances Emptying (empty_one o below (at Emptying) m)
-  emptying_advances None = Plainly [] (without o v.objects) _ (Free o ∷ []) (TopEnds (dying_now Emptying) tt) (LosesObject o v.objects (OfEmptied o) (inl refl))
-      OneLess (Frees o refl (without_gone o v.objects))
-  emptying_advances (Some entry) = gives Emptying Emptying (entry_references entry) (change (with_entries (without_last (entries_of v.objects o))) o v.objects)
-      (few_entry entry) (DeathGoesOn o Emptying Emptying (nothing Emptying) tt) (shortens (dying_now Emptying) (Releasing (entry_references entry)
-      ∷ dying_now Emptying ∷ []) [] o v.objects (OfEmptied o))
-
-  pub dying_advances : (phase : DyingPhase) → DeathAdvances phase (dying script o phase below (at phase))
-  dying_advances Finalizer = finalizer_advances (option_and_then (finalizer_to_run script) (object_at v.objects o)) refl
-  dying_advances AfterFinalizer = after_frame_advances AfterFinalizer (Clearing []) (DeathGoesOn o AfterFinalizer (Clearing []) (nothing AfterFinalizer) refl)
-  dying_advances (Clearing waiting) = clearing_advances waiting (weak_references_if has_weak_references v.objects o) refl
-  dying_advances (Calling waiting) = calling_advances waiting
   dying_advances (AfterCall weak callback waiting) = gives (AfterCall weak callback waiting) (Calling waiting) (callback ∷ weak ∷ []) v.objects (omega arith)
       (DeathGoesOn o (AfterCall weak callback waiting) (Calling waiting) (λ n m. m) tt) (NothingChanges v.objects)
-  dying_advances LegacyFinalizer = legacy_advances (option_and_then (legacy_of script) (object_at v.objects o)) refl
+  dying_advances LegacyFinalizer = option_either (Advance script v (dying_now LegacyFinalizer) below) (run_legacy script o below (at LegacyFinalizer)) (option_and_then (legacy_of script) (object_at v.objects o))
+      (λ e. goes_on LegacyFinalizer Detaching v.objects (DeathGoesOn o LegacyFinalizer Detaching (nothing LegacyFinalizer) tt) (NothingChanges v.objects))
+      (λ p e. WithFrame (record { sort = Legacy; proc = p; subject = o; func = None }) (dying_now AfterLegacy)
+      (change (with_place (Gen 0)) o v.objects) (OfLegacy o p e) (DeathGoesOn o LegacyFinalizer AfterLegacy (nothing LegacyFinalizer) tt) tt
+      (moves (dying_now LegacyFinalizer) [] [] (Gen 0) o v.objects (λ x e. IsRevived (subst (Finalizes (dying_now LegacyFinalizer)) (sym e) (Late o)) refl)))
   dying_advances AfterLegacy = after_frame_advances AfterLegacy Detaching (DeathGoesOn o AfterLegacy Detaching (nothing AfterLegacy) tt)
-  dying_advances Detaching = detaching_advances (weak_references_if (has_finalizers script) v.objects o) refl
-  dying_advances Emptying = emptying_advances (last_entry (entries_of v.objects o))
+  dying_advances Detaching = list_either (Advance script v (dying_now Detaching) below) (detach_one o below (at Detaching)) (weak_references_if (has_finalizers script) v.objects o)
+      (λ e. goes_on Detaching Emptying v.objects (DeathGoesOn o Detaching Emptying (nothing Detaching) tt) (NothingChanges v.objects))
+      (λ weak weaks e. Plainly (dying_now Detaching ∷ []) (loses_referent weak v.objects) v.numbers (Cleared weak ∷ [])
+      (TopGoesOn (dying_now Detaching) (dying_now Detaching) (DeathGoesOn o Detaching Detaching (nothing Detaching) tt) tt)
+      (loses (dying_now Detaching) (dying_now Detaching ∷ []) (Cleared weak ∷ []) weak (inl refl) v.objects) SameCounts
+      (cleared Detaching weak (weak_lives (has_finalizers script) v.objects o weak weaks e)))
+  dying_advances Emptying = option_either (Advance script v (dying_now Emptying) below) (empty_one o below (at Emptying)) (last_entry (entries_of v.objects o))
+      (λ e. Plainly [] (without o v.objects) _ (Free o ∷ []) (TopEnds (dying_now Emptying) tt) (LosesObject o v.objects (OfEmptied o) (inl refl))
+      OneLess (Frees o refl (without_gone o v.objects)))
+      (λ entry e. gives Emptying Emptying (entry_references entry) (change (with_entries (without_last (entries_of v.objects o))) o v.objects)
+      (references_two entry) (DeathGoesOn o Emptying Emptying (nothing Emptying) tt) (shortens (dying_now Emptying) (Releasing (entry_references entry)
+      ∷ dying_now Emptying ∷ []) [] o v.objects (OfEmptied o)))
 
 -- the places of a collection that starts
 merges : (top : Activity) (c : Collection) → top ≡ Collecting c → (x : Object) → IsMoved top x (with_place (merged_place c.generation x.place) x)
@@ -315,8 +292,40 @@ module _ (script : Script) (c : Collection) (below : List Activity) (v : World) 
       (GivesReferences (collecting phase) (collecting next) references few (CollectionGoesOn (record c { phase = phase }) (record c { phase = next }) refl t.0
       t.1) t.2) h SameCounts (Shows [] (no_lines v.objects objects (collecting phase)))
 
-  start_advances : (lines : List Event) (after : World) → StartStep script (with_phase Start) c below lines after → CollectionAdvances Start lines after
-  start_advances lines after step = yielded Start (_, _) lines after step.lines step.world (Plainly (collecting (WeakClearing []) ∷ [])
+  weak_calling_advances : (waiting : List ℕ) → (let t : Transition = calls_back script c waiting below (with_phase (WeakCalling waiting)) in CollectionAdvances (WeakCalling waiting) t.0 t.1)
+  weak_calling_advances [] = silent (WeakCalling []) Finalizing v.objects (refl, λ e s. tt, λ n m. absurd m) (NothingChanges v.objects)
+  weak_calling_advances (weak ∷ waiting) =
+      let callback = unwrap_or (callback_of v.objects weak) 0 in
+      let phase = WeakCalling (weak ∷ waiting) in
+      WithFrame (record { sort = Callback; proc = procedure_of (with_phase phase) callback; subject = weak; func = Some callback }) (collecting (AfterCallback weak waiting)) v.objects
+      (OfCallback weak (procedure_of (with_phase phase) callback) (inl refl) (inr (inl refl, refl))) (CollectionGoesOn (record c { phase = phase })
+      (record c { phase = AfterCallback weak waiting }) refl refl (λ e s. tt)) (λ n m. inr m) (NothingChanges v.objects)
+
+  after_release_advances : (weak : ℕ) (waiting : List ℕ) → (let t : Transition = after_release c weak waiting below (with_phase (AfterRelease weak waiting))
+      in CollectionAdvances (AfterRelease weak waiting) t.0 t.1)
+  after_release_advances weak waiting = called_back_either (CollectionAdvances (AfterRelease weak waiting)) c weak waiting below (with_phase (AfterRelease weak waiting))
+      (λ t. silent (AfterRelease weak waiting) (WeakCalling waiting) (change (with_place place) weak v.objects) (refl, λ e s. tt, λ n m. inr m)
+      (moves_to (AfterRelease weak waiting) (collecting (WeakCalling waiting) ∷ []) [] place weak v.objects (inr refl)))
+      (λ t. stands (AfterRelease weak waiting) (record c { collected = c.collected + 1; phase = WeakCalling waiting }) v.objects [] refl (
+        refl,
+        λ e s. tt,
+        λ n m. inr m,
+      ) (NothingChanges v.objects) (no_lines v.objects v.objects (collecting (AfterRelease weak waiting))))
+
+  turn_advances : (x : Object) → Includes v.objects x → (let t : Transition = takes_turn c x below (with_phase Turns) in CollectionAdvances Turns t.0 t.1)
+  turn_advances x there = turn_either (CollectionAdvances Turns) c x below (with_phase Turns)
+      (λ t. stands Turns (record c { phase = Turns }) kept (GcSaved x.serial ∷ []) refl (refl, λ e s. absurd e, λ n m. absurd m)
+      (Followed v.objects (saved x.serial v.objects) kept (GetsEntry x.serial v.objects refl) (moves_to Turns (collecting Turns ∷ []) (GcSaved x.serial ∷ [])
+      place x.serial (saved x.serial v.objects) (inr refl)))
+      (one_line v.objects kept (collecting Turns) (GcSaved x.serial) tt (it v.objects kept (collecting Turns) x.serial (Includes-map (λ (z : Object). z.serial) v.objects x there))))
+      (λ t b. silent Turns Turns _ (refl, λ e s. absurd e, λ n m. absurd m) (moves_to Turns (collecting Turns ∷ []) [] place x.serial v.objects (inr refl)))
+      (λ t b. silent Turns (Turn x.serial) v.objects (refl, λ e s. absurd e, λ n m. absurd m) (NothingChanges v.objects))
+    where
+      kept : List Object
+      kept = change (with_place place) x.serial (saved x.serial v.objects)
+
+  pub phase_advances : (phase : CollectPhase) (lines : List Event) (after : World) → PhaseStep script c phase below (with_phase phase) lines after → CollectionAdvances phase lines after
+  phase_advances Start lines after step = yielded Start (_, _) lines after step.lines step.world (Plainly (collecting (WeakClearing []) ∷ [])
       (sorted c.generation step.places now) (survived c.generation survivors (begun c.generation v.numbers)) shown
       (TopGoesOn (collecting Start) (collecting (WeakClearing [])) (CollectionGoesOn (record c { phase = Start }) (record c { phase = WeakClearing [] }) refl
       refl (λ e s. tt)) (λ n m. absurd m)) changed (BegunCounts (record c { phase = Start }) survivors refl refl few)
@@ -383,10 +392,7 @@ module _ (script : Script) (c : Collection) (below : List Activity) (v : World) 
         length-map v.objects (λ (x : Object). with_place (merged_place c.generation x.place) x),
         count_by-le-length (λ x. is_at (Gen c.generation) x && same_place (step.places x) (Gen (older c.generation))) now,
       )
-
-  weak_clearing_advances : (waiting : List ℕ) (lines : List Event) (after : World) → WeakClearingStep (profile_of script.items) c waiting below
-      (with_phase (WeakClearing waiting)) lines after → CollectionAdvances (WeakClearing waiting) lines after
-  weak_clearing_advances waiting lines after (inl step) = yielded (WeakClearing waiting) (_, _) lines after step.yields.0 step.yields.1 (go (waits v.objects step.weak))
+  phase_advances (WeakClearing waiting) lines after (inl step) = yielded (WeakClearing waiting) (_, _) lines after step.yields.0 step.yields.1 (go (waits v.objects step.weak))
     where
       lost : List Object
       lost = loses_referent step.weak v.objects
@@ -410,53 +416,34 @@ module _ (script : Script) (c : Collection) (below : List Activity) (v : World) 
       go false = stands (WeakClearing waiting) (record c { phase = WeakClearing waiting }) lost _ refl (refl, λ e s. tt, λ n m. inr m)
           (loses (collecting (WeakClearing waiting)) (collecting (WeakClearing waiting) ∷ []) (Cleared step.weak ∷ []) step.weak (inl refl) v.objects)
           (told lost (lost_none step.weak v.objects))
-  weak_clearing_advances waiting lines after (inr step) = yielded (WeakClearing waiting) (_, _) lines after step.1.0 step.1.1
+  phase_advances (WeakClearing waiting) lines after (inr step) = yielded (WeakClearing waiting) (_, _) lines after step.1.0 step.1.1
       (silent (WeakClearing waiting) (WeakCalling waiting) v.objects (refl, λ e s. tt, λ n m. inr m) (NothingChanges v.objects))
-
-  weak_calling_advances : (waiting : List ℕ) → (let t : Transition = calls_back script c waiting below (with_phase (WeakCalling waiting)) in CollectionAdvances (WeakCalling waiting) t.0 t.1)
-  weak_calling_advances [] = silent (WeakCalling []) Finalizing v.objects (refl, λ e s. tt, λ n m. absurd m) (NothingChanges v.objects)
-  weak_calling_advances (weak ∷ waiting) =
-      let callback = unwrap_or (callback_of v.objects weak) 0 in
-      let phase = WeakCalling (weak ∷ waiting) in
-      WithFrame (record { sort = Callback; proc = procedure_of (with_phase phase) callback; subject = weak; func = Some callback }) (collecting (AfterCallback weak waiting)) v.objects
-      (OfCallback weak (procedure_of (with_phase phase) callback) (inl refl) (inr (inl refl, refl))) (CollectionGoesOn (record c { phase = phase })
-      (record c { phase = AfterCallback weak waiting }) refl refl (λ e s. tt)) (λ n m. inr m) (NothingChanges v.objects)
-
-  after_release_advances : (weak : ℕ) (waiting : List ℕ) → (let t : Transition = after_release c weak waiting below (with_phase (AfterRelease weak waiting))
-      in CollectionAdvances (AfterRelease weak waiting) t.0 t.1)
-  after_release_advances weak waiting = either_way (CollectionAdvances (AfterRelease weak waiting)) (is_in_map v.objects weak)
-      ([], collection_at c (WeakCalling waiting) below (with_change (with_place place) weak (with_phase (AfterRelease weak waiting))))
-      ([], collection_at (record c { collected = c.collected + 1 }) (WeakCalling waiting) below (with_phase (AfterRelease weak waiting)))
-      (silent (AfterRelease weak waiting) (WeakCalling waiting) (change (with_place place) weak v.objects) (refl, λ e s. tt, λ n m. inr m)
-      (moves_to (AfterRelease weak waiting) (collecting (WeakCalling waiting) ∷ []) [] place weak v.objects (inr refl)))
-      (stands (AfterRelease weak waiting) (record c { collected = c.collected + 1; phase = WeakCalling waiting }) v.objects [] refl (
+  phase_advances (WeakCalling waiting) lines after step = yielded (WeakCalling waiting) _ lines after step.0 step.1 (weak_calling_advances waiting)
+  phase_advances (AfterCallback weak waiting) lines after step = yielded (AfterCallback weak waiting) (_, _) lines after step.0 step.1
+      (releases (AfterCallback weak waiting) (AfterRelease weak waiting) (weak ∷ []) v.objects (omega arith) (
         refl,
         λ e s. tt,
-        λ n m. inr m,
-      ) (NothingChanges v.objects) (no_lines v.objects v.objects (collecting (AfterRelease weak waiting))))
-
-  looks_at_advances : (o : ℕ) (m : Option ℕ) → option_and_then (finalizer_to_run script) (object_at v.objects o) ≡ m
-      → (let t : Transition = looks_at script c o below (with_phase Finalizing) m in CollectionAdvances Finalizing t.0 t.1)
-  looks_at_advances o None e = silent Finalizing Finalizing (change (with_place Seen) o v.objects) (refl, λ e s. tt, λ n m. absurd m)
-      (moves_to Finalizing (collecting Finalizing ∷ []) [] Seen o v.objects tt)
-  looks_at_advances o (Some p) e = WithFrame (record { sort = Del; proc = p; subject = o; func = None }) (collecting (AfterFinalizing o))
-      (change (λ x. marked (with_place Seen x)) o v.objects) (OfFinalizer o p e (changed_all (λ z. z.finalized ≡ true) (λ x. marked (with_place Seen x)) o
+        λ n m. either m (λ i. inl (inl i)) (λ k. inr k),
+      ) (NothingChanges v.objects))
+  phase_advances (AfterRelease weak waiting) lines after step = yielded (AfterRelease weak waiting) _ lines after step.0 step.1 (after_release_advances weak waiting)
+  phase_advances Finalizing lines after (inl step) = yielded Finalizing _ lines after step.yields.0 step.yields.1
+      (option_either (CollectionAdvances Finalizing) (looks_at script c step.object below (with_phase Finalizing)) (option_and_then (finalizer_to_run script) (object_at v.objects step.object))
+      (λ e. silent Finalizing Finalizing (change (with_place Seen) step.object v.objects) (refl, λ e s. tt, λ n m. absurd m)
+      (moves_to Finalizing (collecting Finalizing ∷ []) [] Seen step.object v.objects tt))
+      (λ p e. WithFrame (record { sort = Del; proc = p; subject = step.object; func = None }) (collecting (AfterFinalizing step.object))
+      (change (λ x. marked (with_place Seen x)) step.object v.objects) (OfFinalizer step.object p e (changed_all (λ z. z.finalized ≡ true) (λ x. marked (with_place Seen x)) step.object
       v.objects (λ x. refl)))
-      (CollectionGoesOn (record c { phase = Finalizing }) (record c { phase = AfterFinalizing o }) refl refl (λ e s. tt)) (λ n m. absurd m)
-      (move_mark (collecting Finalizing) [] [] Seen o v.objects (λ x e. IsPlaced (record c { phase = Finalizing }) refl tt))
-
-  finalizing_advances : (lines : List Event) (after : World) → FinalizingStep script c below (with_phase Finalizing) lines after → CollectionAdvances Finalizing lines after
-  finalizing_advances lines after (inl step) = yielded Finalizing _ lines after step.yields.0 step.yields.1
-      (looks_at_advances step.object (option_and_then (finalizer_to_run script) (object_at v.objects step.object)) refl)
-  finalizing_advances lines after (inr step) = yielded Finalizing (_, _) lines after step.1.0 step.1.1 (silent Finalizing Split _ (
+      (CollectionGoesOn (record c { phase = Finalizing }) (record c { phase = AfterFinalizing step.object }) refl refl (λ e s. tt)) (λ n m. absurd m)
+      (move_mark (collecting Finalizing) [] [] Seen step.object v.objects (λ x e. IsPlaced (record c { phase = Finalizing }) refl tt))))
+  phase_advances Finalizing lines after (inr step) = yielded Finalizing (_, _) lines after step.1.0 step.1.1 (silent Finalizing Split _ (
     refl,
     λ e s. tt,
     λ n m. absurd m,
   ) (sorts (collecting Finalizing) (collecting Split ∷ []) [] (record c { phase = Finalizing }) refl (λ x. Cand) (is_at Seen) v.objects
       (λ x m t. tt)))
-
-  split_advances : (lines : List Event) (after : World) → SplitStep c below (with_phase Split) lines after → CollectionAdvances Split lines after
-  split_advances lines after step = yielded Split (_, _) lines after step.lines step.world (stands Split next step.objects told refl (refl, λ e s. absurd (s refl), λ n m. absurd m)
+  phase_advances (AfterFinalizing o) lines after step = yielded (AfterFinalizing o) (_, _) lines after step.0 step.1 (releases (AfterFinalizing o) Finalizing
+      (o ∷ []) v.objects (omega arith) (refl, λ e s. tt, λ n m. inl m) (NothingChanges v.objects))
+  phase_advances Split lines after step = yielded Split (_, _) lines after step.lines step.world (stands Split next step.objects told refl (refl, λ e s. absurd (s refl), λ n m. absurd m)
       (Followed v.objects now step.objects grow_older (all_lose_by (HasChanged (collecting Split) (Collecting next ∷ []) told)
       (changes (collecting Split) (Collecting next ∷ []) told) (loses_at_split now) step.cleared
       (λ weak m objects. loses (collecting Split) (Collecting next ∷ []) told weak (Includes-append_right (map Alive step.alive) (map Cleared step.cleared)
@@ -485,43 +472,19 @@ module _ (script : Script) (c : Collection) (below : List Activity) (v : World) 
 
       grow_older : HasChanged (collecting Split) (Collecting next ∷ []) told v.objects now
       grow_older = sorts (collecting Split) (Collecting next ∷ []) told (record c { phase = Split }) refl (λ x. place) (λ x. includes step.alive x.serial) v.objects (λ x m t. inr refl)
-
-  turn_advances : (x : Object) → Includes v.objects x → (let t : Transition = takes_turn c x below (with_phase Turns) in CollectionAdvances Turns t.0 t.1)
-  turn_advances x there = either_way (CollectionAdvances Turns) (has_flag c.flags save_all)
-      (GcSaved x.serial ∷ [], collection_at c Turns below (with_objects (change (with_place place) x.serial (saved x.serial v.objects)) (with_phase Turns)))
-      (if is_tuple x then older_now else goes_now)
-      (stands Turns (record c { phase = Turns }) kept (GcSaved x.serial ∷ []) refl (refl, λ e s. absurd e, λ n m. absurd m)
-      (Followed v.objects (saved x.serial v.objects) kept (GetsEntry x.serial v.objects refl) (moves_to Turns (collecting Turns ∷ []) (GcSaved x.serial ∷ [])
-      place x.serial (saved x.serial v.objects) (inr refl)))
-      (one_line v.objects kept (collecting Turns) (GcSaved x.serial) tt (it v.objects kept (collecting Turns) x.serial (Includes-map (λ (z : Object). z.serial) v.objects x there))))
-      (either_way (CollectionAdvances Turns) (is_tuple x) older_now goes_now (silent Turns Turns _ (refl, λ e s. absurd e, λ n m. absurd m)
-      (moves_to Turns (collecting Turns ∷ []) [] place x.serial v.objects (inr refl))) (silent Turns (Turn x.serial) v.objects (
-        refl,
-        λ e s. absurd e,
-        λ n m. absurd m,
-      ) (NothingChanges v.objects)))
-    where
-      kept : List Object
-      kept = change (with_place place) x.serial (saved x.serial v.objects)
-
-      older_now : Transition
-      older_now = ([], collection_at c Turns below (with_change (with_place place) x.serial (with_phase Turns)))
-
-      goes_now : Transition
-      goes_now = ([], collection_at c (Turn x.serial) below (with_phase Turns))
-
-  turns_advances : (lines : List Event) (after : World) → TurnsStep c below (with_phase Turns) lines after → CollectionAdvances Turns lines after
-  turns_advances lines after (inl step) = yielded Turns _ lines after step.yields.0 step.yields.1 (turn_advances step.object (Includes-filter_cases (is_at Cand) v.objects step.object step.member).0)
-  turns_advances lines after (inr step) = yielded Turns (_, _) lines after step.1.0 step.1.1 (silent Turns Ending v.objects (refl, λ e s. absurd e, λ n m. absurd m) (NothingChanges v.objects))
-
-  empties_advances : (o : ℕ) (m : Option Entry) → (let t : Transition = empties c o below (with_phase (Turn o)) m in CollectionAdvances (Turn o) t.0 t.1)
-  empties_advances o None = releases (Turn o) (AfterTurn o) (o ∷ []) v.objects (omega arith) (refl, λ e s. absurd e, λ n m. inl m) (NothingChanges v.objects)
-  empties_advances o (Some entry) = releases (Turn o) (Turn o) (entry_references entry) _ (few_entry entry) (refl, λ e s. absurd e, λ n m. inr m)
+  phase_advances Turns lines after (inl step) = yielded Turns _ lines after step.yields.0 step.yields.1 (turn_advances step.object (Includes-filter_cases (is_at Cand) v.objects step.object step.member).0)
+  phase_advances Turns lines after (inr step) = yielded Turns (_, _) lines after step.1.0 step.1.1 (silent Turns Ending v.objects (refl, λ e s. absurd e, λ n m. absurd m) (NothingChanges v.objects))
+  phase_advances (Turn o) lines after step = yielded (Turn o) _ lines after step.0 step.1 (option_either (CollectionAdvances (Turn o)) (empties c o below (with_phase (Turn o))) (last_entry (entries_of v.objects o))
+      (λ is. releases (Turn o) (AfterTurn o) (o ∷ []) v.objects (omega arith) (refl, λ e s. absurd e, λ n m. inl m) (NothingChanges v.objects))
+      (λ entry is. releases (Turn o) (Turn o) (entry_references entry) _ (references_two entry) (refl, λ e s. absurd e, λ n m. inr m)
       (shortens (collecting (Turn o)) (Releasing (entry_references entry) ∷ collecting (Turn o) ∷ []) [] o v.objects (OfTurn (record c { phase = Turn o }) o
-      refl))
-
-  end_advances : (lines : List Event) (after : World) → EndStep script c below (with_phase Ending) lines after → CollectionAdvances Ending lines after
-  end_advances lines after step = yielded Ending (_, _) lines after step.lines step.world (Plainly [] last v.numbers shown (TopEnds (collecting Ending) refl)
+      refl))))
+  phase_advances (AfterTurn o) lines after step = yielded (AfterTurn o) (_, _) lines after step.0 step.1 (silent (AfterTurn o) Turns _ (
+    refl,
+    λ e s. absurd e,
+    λ n m. absurd m,
+  ) (moves_to (AfterTurn o) (collecting Turns ∷ []) [] place o v.objects (inr refl)))
+  phase_advances Ending lines after step = yielded Ending (_, _) lines after step.lines step.world (Plainly [] last v.numbers shown (TopEnds (collecting Ending) refl)
       (Followed v.objects (all_saved step.keeps v.objects) last (all_saved_by (HasChanged now_on [] shown) (changes now_on [] shown) step.keeps
       (λ o m objects. GetsEntry o objects refl) v.objects) (sorts now_on [] shown (record c { phase = Ending }) refl (λ x. place) (is_at LegacyPlace)
       (all_saved step.keeps v.objects) (λ x m t. inr refl))) SameCounts
@@ -559,27 +522,3 @@ module _ (script : Script) (c : Collection) (below : List Activity) (v : World) 
 
       shown : List Event
       shown = told ++ map GcSaved step.keeps ++ stop ∷ asked
-
-  pub phase_advances : (phase : CollectPhase) (lines : List Event) (after : World) → PhaseStep script c phase below (with_phase phase) lines after → CollectionAdvances phase lines after
-  phase_advances Start lines after step = start_advances lines after step
-  phase_advances (WeakClearing waiting) lines after step = weak_clearing_advances waiting lines after step
-  phase_advances (WeakCalling waiting) lines after step = yielded (WeakCalling waiting) _ lines after step.0 step.1 (weak_calling_advances waiting)
-  phase_advances (AfterCallback weak waiting) lines after step = yielded (AfterCallback weak waiting) (_, _) lines after step.0 step.1
-      (releases (AfterCallback weak waiting) (AfterRelease weak waiting) (weak ∷ []) v.objects (omega arith) (
-        refl,
-        λ e s. tt,
-        λ n m. either m (λ i. inl (inl i)) (λ k. inr k),
-      ) (NothingChanges v.objects))
-  phase_advances (AfterRelease weak waiting) lines after step = yielded (AfterRelease weak waiting) _ lines after step.0 step.1 (after_release_advances weak waiting)
-  phase_advances Finalizing lines after step = finalizing_advances lines after step
-  phase_advances (AfterFinalizing o) lines after step = yielded (AfterFinalizing o) (_, _) lines after step.0 step.1 (releases (AfterFinalizing o) Finalizing
-      (o ∷ []) v.objects (omega arith) (refl, λ e s. tt, λ n m. inl m) (NothingChanges v.objects))
-  phase_advances Split lines after step = split_advances lines after step
-  phase_advances Turns lines after step = turns_advances lines after step
-  phase_advances (Turn o) lines after step = yielded (Turn o) _ lines after step.0 step.1 (empties_advances o (last_entry (entries_of v.objects o)))
-  phase_advances (AfterTurn o) lines after step = yielded (AfterTurn o) (_, _) lines after step.0 step.1 (silent (AfterTurn o) Turns _ (
-    refl,
-    λ e s. absurd e,
-    λ n m. absurd m,
-  ) (moves_to (AfterTurn o) (collecting Turns ∷ []) [] place o v.objects (inr refl)))
-  phase_advances Ending lines after step = end_advances lines after step

@@ -42,9 +42,6 @@ only_others p e o objects = tally-map_to (λ x. bit (is_at Cand x)) (other_candi
     go true x = subst (λ c. bit c ≤ 0) (sym e) (omega arith)
     go false x = omega arith
 
-entry_added : ℕ → Object → Object
-entry_added o x = with_entries (x.entries ++ item (Ref o) ∷ []) x
-
 kept_at : (b : Bool) (f : Object → Object) → ((x : Object) → (f x).place ≡ x.place) → ((x : Object) → (f x).serial ≡ x.serial) → (x : Object)
     → ((if b then f x else x).place ≡ x.place) × ((if b then f x else x).serial ≡ x.serial)
 kept_at true f p s x = (p x, s x)

@@ -84,10 +84,8 @@ count_cons : (p : Object → Bool) (x : Object) (xs : List Object) → count_by 
 count_cons p x xs = sum_by-cons (λ y. cond (p y) 1 0) x xs
 
 one_le : (a b : Bool) → (a ≡ true → b ≡ true) → cond a 1 0 ≤ cond b 1 0
-one_le true true f = omega arith
 one_le true false f = absurd (let e = f refl in cc)
-one_le false true f = omega arith
-one_le false false f = omega arith
+one_le b bit f = omega arith
 
 count_map_le : (p : Object → Bool) (f : Object → Object) → ((x : Object) → p (f x) ≡ true → p x ≡ true) → (xs : List Object) → count_by p (map f xs) ≤ count_by p xs
 count_map_le p f h [] = omega arith

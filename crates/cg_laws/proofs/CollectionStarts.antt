@@ -25,7 +25,7 @@ may_fewer x true h = go (is_tuple x) h
     go false e = refl
 may_fewer x false h = h
 
-serial_same : (b : Bool) (x : Object) → (untracked_if b x).serial ≡ x.serial
+pub serial_same : (b : Bool) (x : Object) → (untracked_if b x).serial ≡ x.serial
 serial_same true x = refl
 serial_same false x = refl
 

@@ -6,7 +6,7 @@ use Rattle.std.specs.List.{list_any}
 use Rattle.std.proofs.lemmas.Bool.{and_parts, ltb-true, or_parts}
 use Rattle.cg_script.specs.declared.Command.{Command}
 use Rattle.cg_machine.specs.World.{World, Activity, Numbers}
-use Rattle.cg_machine.specs.Effects.{Effect, Changes, Calls, Collects, Explains, Quits}
+use Rattle.cg_machine.specs.Effects.{Effect, Changes}
 use Rattle.cg_machine.specs.Collect.{begun, survived}
 use Rattle.cg_machine.specs.Due.{due_generation, is_due}
 use Rattle.cg_represents.proofs.Shapes.{Shape, Makes, Sets, Freezes, StartsFrame, StartsCollection, Ends, AsksWhy}
@@ -104,13 +104,7 @@ pub record CountsOne (n after : Numbers) : Type 0 where
 
 abbrev pub LeavesNumbers : World → Effect → Type 0
 LeavesNumbers w (Changes wants_memory lines given_up after) = CountsOne w.numbers after.numbers
-LeavesNumbers w (Calls f) = Unit {0}
-LeavesNumbers w (Collects g) = Unit {0}
-LeavesNumbers w (Explains o) = Unit {0}
-LeavesNumbers w Quits = Unit {0}
-
-kept : (n : Numbers) → CountsOne n n
-kept n = record { counts_one = omega arith; pending = refl; total = refl }
+LeavesNumbers w effect = Unit {0}
 
 pub shape_counts : (w : World) (command : Command) (e : Effect) → Shape w command e → LeavesNumbers w e
 shape_counts w command e (Makes name kind class entries referent own parts) = record { counts_one = omega arith; pending = refl; total = refl }
@@ -120,4 +114,4 @@ shape_counts w command e (StartsFrame f h) = tt
 shape_counts w command e (StartsCollection g low) = tt
 shape_counts w command e Ends = tt
 shape_counts w command e (AsksWhy x h calm) = tt
-shape_counts w command e s = kept w.numbers
+shape_counts w command e s = record { counts_one = omega arith; pending = refl; total = refl }

@@ -105,10 +105,9 @@ module _ (limits : Limits) (script : Script) (short : (p : ℕ) → length (body
 -- a collection that is due is pushed
 due_pushed : (limits : Limits) (w : World) → IsSettled limits w → (is t : Bool) → is_due w.numbers ≡ is → (g : ℕ)
     → (if is && not t then Some (due_generation w.numbers) else None) ≡ Some g → StartsSettled limits w.numbers w.budget w.stack g
-due_pushed limits w h true true e g d = absurd (let no : None ≡ Some g = d in cc)
 due_pushed limits w h true false e g d = let same : due_generation w.numbers ≡ g = cc in subst (StartsSettled limits w.numbers w.budget w.stack) same
     (due_settles limits w.numbers w.budget w.stack e h)
-due_pushed limits w h false t e g d = absurd (let no : None ≡ Some g = d in cc)
+due_pushed limits w h b t e g d = absurd (let no : None ≡ Some g = d in cc)
 
 due_counts : (limits : Limits) (w : World) → IsSettled limits w → (g : ℕ) → due w ≡ Some g → IsCounted limits (push (new_collection g false w) w)
 due_counts limits w h g d = record { now = h; soon = λ first. due_pushed limits w h (is_due w.numbers) (is_collecting w) refl g d }

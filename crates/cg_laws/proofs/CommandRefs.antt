@@ -1,6 +1,6 @@
 -- The references that a command works with: what its operands stand for, and what lists of entries and names hold after it.
-use Rattle.std.proofs.Common.{◌≡◌, ◌≢◌, refl, sym, ap, subst, ℕ, zero, suc, Bool, true, false, inl, inr, List, [], ◌∷◌, Option, Some, None, take, drop}
-use Rattle.std.specs.Prelude.{if◌then◌else◌, flat_map, slice_get, slice_set, remove, option_to_list, option_map, option_and_then}
+use Rattle.std.proofs.Common.{◌≡◌, ◌≢◌, refl, sym, ap, subst, ℕ, zero, suc, Bool, true, false, inl, inr, List, [], ◌∷◌, Option, Some, None}
+use Rattle.std.specs.Prelude.{if◌then◌else◌, flat_map, slice_get, slice_set, option_to_list, option_map, option_and_then}
 use Rattle.cg_value.specs.declared.Entry.{Entry}
 use Rattle.cg_value.specs.declared.Val.{Val}
 use Rattle.cg_value.specs.declared.Val.TheVariants.{None as Nothing, Int, Str, Ref}
@@ -12,14 +12,14 @@ use Rattle.cg_graph.specs.Object.{entries_of}
 use Rattle.cg_graph.specs.Holdings.{name_holdings}
 use Rattle.cg_graph.proofs.Members.{either, Includes-append_left, Includes-append_right, Includes-append_cases}
 use Rattle.cg_machine.specs.declared.event.FrameSort.{FrameSort}
-use Rattle.cg_machine.specs.declared.event.FrameSort.TheVariants.{Del, Legacy, Callback, Call}
+use Rattle.cg_machine.specs.declared.event.FrameSort.TheVariants.{Callback, Call}
 use Rattle.cg_machine.specs.World.{World, Activity, Framed, Frame}
 use Rattle.cg_machine.specs.Holdings.{holds}
 use Rattle.cg_machine.specs.Operands.{frame_on, self_in, weak_in, value_of}
 use Rattle.cg_laws.proofs.Unreferred.{Forgotten}
 use Rattle.cg_laws.proofs.Unheld.{IsLocalHeld, AreOver}
 use Rattle.cg_represents.proofs.Lists.{slice_get_member}
-use Rattle.cg_laws.proofs.Lookups.{references_of_member, references_take, references-append, entries_free}
+use Rattle.cg_laws.proofs.Lookups.{references_of_member, entries_free}
 
 -- entries hold nothing of o, and a value does not refer to it
 abbrev pub HoldNone : ℕ → List Entry → Type 0
@@ -45,9 +45,6 @@ entry_val e o h k = h (Includes-append_left (option_to_list (reference_in e.val)
 pub entry_key : (e : Entry) (o : ℕ) → ¬ Includes (entry_references e) o → IsNotTo o e.key
 entry_key e o h k = h (Includes-append_right (option_to_list (reference_in e.val)) (option_to_list (reference_in e.key)) o (option_held (reference_in e.key) o k))
 
-nothing_free : (o : ℕ) → IsNotTo o Nothing
-nothing_free o e = let no : None ≡ Some o = e in cc
-
 pub cons_free : (e : Entry) (entries : List Entry) (o : ℕ) → ¬ Includes (entry_references e) o → HoldNone o entries → HoldNone o (e ∷ entries)
 cons_free e entries o h k m = either (Includes-append_cases (entry_references e) (references entries) o m) h k
 
@@ -63,14 +60,6 @@ all_free o (e ∷ entries) h = cons_free e entries o (h e (inl refl)) (all_free 
 
 pub got_free : (entries : List Entry) (i o : ℕ) (e : Entry) → slice_get entries i ≡ Some e → HoldNone o entries → ¬ Includes (entry_references e) o
 got_free entries i o e at h m = h (references_of_member entries e o (slice_get_member entries i e at) m)
-
-drop_free : (i : ℕ) (entries : List Entry) (o : ℕ) → HoldNone o entries → HoldNone o (drop i entries)
-drop_free zero entries o h = h
-drop_free (suc i) [] o h = h
-drop_free (suc i) (x ∷ entries) o h = drop_free i entries o (tail_free x entries o h)
-
-pub removed_free : (entries : List Entry) (i o : ℕ) → HoldNone o entries → HoldNone o (remove entries i)
-removed_free entries i o h m = either (references-append (take i entries) (drop (suc i) entries) o m) (λ k. h (references_take i entries o k)) (drop_free (suc i) entries o h)
 
 pub put_free : (entries : List Entry) (key v : Val) (o : ℕ) → HoldNone o entries → IsNotTo o key → IsNotTo o v → HoldNone o (put entries key v)
 put_free [] key v o h k n = cons_free (record { key = key; val = v }) [] o (entry_free (record { key = key; val = v }) o n k) h
@@ -124,41 +113,33 @@ module _ (w : World) (over : AreOver w.stack) where
   name_known v x e o f k = name_free w.names x o f.unheld.names (subst (λ m. Includes (references_of_value m) o) (sym e) (option_held (reference_in v) o k))
 
   self_case : (sort : FrameSort) (subject : ℕ) (below : List Activity) (o : ℕ) → IsLocalHeld sort subject below → self_in sort subject ≡ Some o → Includes (flat_map holds below) o
-  self_case Del subject below o h e = let same : subject ≡ o = cc in subst (Includes (flat_map holds below)) same h
-  self_case Legacy subject below o h e = let same : subject ≡ o = cc in subst (Includes (flat_map holds below)) same h
   self_case Callback subject below o h e = absurd (let no : None ≡ Some o = e in cc)
   self_case Call subject below o h e = absurd (let no : None ≡ Some o = e in cc)
+  self_case sort subject below o h e = let same : subject ≡ o = cc in subst (Includes (flat_map holds below)) same h
 
   weak_case : (sort : FrameSort) (subject : ℕ) (below : List Activity) (o : ℕ) → IsLocalHeld sort subject below → weak_in sort subject ≡ Some o → Includes (flat_map holds below) o
-  weak_case Del subject below o h e = absurd (let no : None ≡ Some o = e in cc)
-  weak_case Legacy subject below o h e = absurd (let no : None ≡ Some o = e in cc)
   weak_case Callback subject below o h e = let same : subject ≡ o = cc in subst (Includes (flat_map holds below)) same h
-  weak_case Call subject below o h e = absurd (let no : None ≡ Some o = e in cc)
+  weak_case sort subject below o h e = absurd (let no : None ≡ Some o = e in cc)
 
   self_held : (stack : List Activity) (o : ℕ) → AreOver stack → option_and_then (λ f. self_in f.sort f.subject) (frame_on stack) ≡ Some o → Includes (flat_map holds stack) o
-  self_held [] o h e = absurd (let no : None ≡ Some o = e in cc)
   self_held (Framed f ∷ below) o h e = Includes-append_right (holds (Framed f)) (flat_map holds below) o (self_case f.sort f.subject below o h.0 e)
-  self_held (a ∷ below) o h e = absurd (let no : None ≡ Some o = e in cc)
+  self_held xs o h e = absurd (let no : None ≡ Some o = e in cc)
 
   weak_held : (stack : List Activity) (o : ℕ) → AreOver stack → option_and_then (λ f. weak_in f.sort f.subject) (frame_on stack) ≡ Some o → Includes (flat_map holds stack) o
-  weak_held [] o h e = absurd (let no : None ≡ Some o = e in cc)
   weak_held (Framed f ∷ below) o h e = Includes-append_right (holds (Framed f)) (flat_map holds below) o (weak_case f.sort f.subject below o h.0 e)
-  weak_held (a ∷ below) o h e = absurd (let no : None ≡ Some o = e in cc)
+  weak_held xs o h e = absurd (let no : None ≡ Some o = e in cc)
 
   local_known : (m : Option ℕ) (v : Val) → ((o : ℕ) → m ≡ Some o → Includes (flat_map holds w.stack) o) → option_map Ref m ≡ Some v → IsKnown v
   local_known None v held e = none_known v e
   local_known (Some s) v held e = same_known (Ref s) v e (λ o f k. f.unheld.stack (held o k))
 
-  entry_known : (s i : ℕ) (v : Val) → option_map (λ (e : Entry). e.val) (slice_get (entries_of w.objects s) i) ≡ Some v → IsKnown v
-  entry_known s i v e = go (slice_get (entries_of w.objects s) i) refl e
+  function_known : (m : Option ℕ) (i : ℕ) (v : Val) → option_and_then (λ o. option_map (λ (e : Entry). e.val) (slice_get (entries_of w.objects o) i)) m ≡ Some v → IsKnown v
+  function_known None i v e = none_known v e
+  function_known (Some s) i v e = go (slice_get (entries_of w.objects s) i) refl e
     where
       go : (m : Option Entry) → slice_get (entries_of w.objects s) i ≡ m → option_map (λ (e : Entry). e.val) m ≡ Some v → IsKnown v
       go None at k = none_known v k
       go (Some entry) at k = same_known entry.val v k (λ o f. entry_val entry o (got_free (entries_of w.objects s) i o entry at (entries_free w.objects s o f.unheld.quiet)))
-
-  function_known : (m : Option ℕ) (i : ℕ) (v : Val) → option_and_then (λ o. option_map (λ (e : Entry). e.val) (slice_get (entries_of w.objects o) i)) m ≡ Some v → IsKnown v
-  function_known None i v e = none_known v e
-  function_known (Some s) i v e = entry_known s i v e
 
   cell_known : (m : Option Frame) (i : ℕ) (v : Val)
       → option_and_then (λ (f : Frame). option_and_then (λ o. option_map (λ (e : Entry). e.val) (slice_get (entries_of w.objects o) i)) f.function) m ≡ Some v

@@ -12,20 +12,20 @@ use Rattle.cg_graph.specs.Value.{item, references}
 use Rattle.cg_graph.specs.Object.{Object, change, is_at, is_tracked, with_place, with_entries, serials, objects_at}
 use Rattle.cg_graph.specs.Holdings.{occurrences, entry_holdings, graph_of, name_holdings}
 use Rattle.cg_graph.specs.Reach.{first}
-use Rattle.cg_graph.proofs.Members.{either, Includes-map, Includes-map_cases}
+use Rattle.cg_graph.proofs.Members.{either, Includes-map}
 use Rattle.cg_graph.proofs.Objects.{occurrences-append}
 use Rattle.cg_machine.specs.World.{World, Activity}
 use Rattle.cg_machine.specs.Holdings.{holds}
 use Rattle.cg_machine.specs.Weak.{loses_referent, AllLose}
 use Rattle.cg_machine.specs.Collect.{merged_place, survivor_place, has_none_tracked, older, is_condemned, Survives, saved, all_saved}
 use Rattle.cg_machine.specs.Operands.{is_dict}
-use Rattle.cg_laws.proofs.Unreferred.{later_refl, place_later, lives_after, change_alters}
+use Rattle.cg_laws.proofs.Unreferred.{later_refl, place_later, lives_after, change_alters, still_later}
 use Rattle.cg_laws.proofs.Lookups.{references-append}
-use Rattle.cg_represents.proofs.Lists.{present}
+use Rattle.cg_represents.proofs.Lists.{present, each_changed}
 use Rattle.cg_laws.proofs.HeldLives.{Orderly, From, objects_orderly, from_same}
 use Rattle.cg_laws.proofs.HeldLivesDeaths.{one_orderly, lost_orderly, false_true}
 
-filter_holdings : (p : Object → Bool) (objects : List Object) (o : ℕ) → occurrences o (entry_holdings (graph_of (filter p objects))) ≤ occurrences o (entry_holdings (graph_of objects))
+pub filter_holdings : (p : Object → Bool) (objects : List Object) (o : ℕ) → occurrences o (entry_holdings (graph_of (filter p objects))) ≤ occurrences o (entry_holdings (graph_of objects))
 filter_holdings p [] o = omega arith
 filter_holdings p (x ∷ objects) o = go (p x) (filter_holdings p objects o)
   where
@@ -73,7 +73,7 @@ merged_uncondemned g p x e = e
 pub saved_orderly : (s : ℕ) (objects : List Object) (names : List (Option Val)) (stack : List Activity) → Includes (serials objects) s
     → Orderly objects names stack → Orderly (saved s objects) names stack
 saved_orderly s objects names stack lives h = objects_orderly objects (saved s objects) names stack
-    (change_alters longer (λ x. record { serial = refl; code = refl; class = refl; referent = inl refl }) 1 objects) from h
+    (change_alters longer (λ x. still_later) 1 objects) from h
   where
     longer : Object → Object
     longer x = with_entries (x.entries ++ item (Ref s) ∷ []) x
@@ -81,25 +81,21 @@ saved_orderly s objects names stack lives h = objects_orderly objects (saved s o
     no_weak : (x : Object) → Includes objects x → x.serial ≡ 1 → x.code ≢ Weak
     no_weak x m e c = let no : ListKind ≡ Weak = sym (h.garbage x m e) ∙ c in cc
 
-    one : (b : Bool) (x : Object) → (x.serial == 1) ≡ b → Includes objects x → From objects stack (if b then longer x else x)
-    one true x e m = record {
+    from : (y : Object) → Includes (saved s objects) y → From objects stack y
+    from = each_changed (From objects stack) longer (λ x. x.serial == 1) objects (λ x m e. record {
       was = x;
       member = m;
-      later = record { serial = refl; code = refl; class = refl; referent = inl refl };
+      later = still_later;
       same = λ k. absurd (no_weak x m (eqb-true x.serial 1 e) (h.waiting x.serial k x m refl).code);
       live = λ f k. either (references-append x.entries (item (Ref s) ∷ []) f k) (h.entries_live x m f) (λ n. either n (λ i. subst (Includes (serials objects)) i lives) (λ i. absurd i));
       fewer = λ c. absurd (no_weak x m (eqb-true x.serial 1 e) c);
       quiet = λ c. absurd (no_weak x m (eqb-true x.serial 1 e) c);
       condemned = λ k. inl k;
-    }
-    one false x e m = from_same objects stack names x x h m (later_refl x) refl (λ k. inl k)
-
-    from : (y : Object) → Includes (saved s objects) y → From objects stack y
-    from y m = let x = Includes-map_cases (λ x. if x.serial == 1 then longer x else x) objects y m in subst (From objects stack) x.2 (one (x.0.serial == 1) x.0 refl x.1)
+    }) (λ x m e. from_same objects stack names x x h m (later_refl x) refl (λ k. inl k))
 
 saved_lives : (s : ℕ) (objects : List Object) (o : ℕ) → Includes (serials objects) o → Includes (serials (saved s objects)) o
 saved_lives s objects o m = lives_after objects (saved s objects) (change_alters (λ x. with_entries (x.entries ++ item (Ref s) ∷ []) x)
-    (λ x. record { serial = refl; code = refl; class = refl; referent = inl refl }) 1 objects) o m
+    (λ x. still_later) 1 objects) o m
 
 pub all_saved_orderly : (keeps : List ℕ) (objects : List Object) (names : List (Option Val)) (stack : List Activity)
     → ((o : ℕ) → Includes keeps o → Includes (serials objects) o) → Orderly objects names stack → Orderly (all_saved keeps objects) names stack
@@ -110,10 +106,10 @@ all_saved_orderly (s ∷ keeps) objects names stack live h = all_saved_orderly k
 pub all_lose_orderly : (wanted : Object → Bool) (weaks : List ℕ) (objects after : List Object) (names : List (Option Val)) (stack : List Activity)
     → AllLose wanted objects weaks after → Orderly objects names stack → Orderly after names stack
 all_lose_orderly wanted [] objects after names stack lose h = subst (λ os. Orderly os names stack) (sym lose.1) h
-all_lose_orderly wanted (weak ∷ weaks) objects after names stack lose h = all_lose_orderly wanted weaks (loses_referent weak objects) after names stack lose.1 (lost_orderly weak objects names stack h)
+all_lose_orderly wanted (weak ∷ weaks) objects after names stack lose h = all_lose_orderly wanted weaks (loses_referent weak objects) after names stack lose.1 (lost_orderly weak h)
 
 -- an object moves to a place of uncondemned objects
 pub placed_orderly : (p : Place) (o : ℕ) (objects : List Object) (names : List (Option Val)) (stack : List Activity)
     → ((x : Object) → is_condemned (with_place p x) ≡ true → is_condemned x ≡ true) → Orderly objects names stack → Orderly (change (with_place p) o objects)
     names stack
-placed_orderly p o objects names stack condemned h = one_orderly (with_place p) o objects names stack (place_later p) (λ x. refl) condemned h
+placed_orderly p o objects names stack condemned h = one_orderly (with_place p) o (place_later p) (λ x. refl) condemned h

@@ -2,10 +2,9 @@
 use Rattle.std.proofs.Common.{◌≡◌, refl, ℕ, zero, suc, List, [], ◌∷◌, Option, Some, None, Result, Ok, Err, Bool, true, false, inl, if◌then◌else◌, T, ◌&&◌, inr}
 use Rattle.cg_script.specs.declared.Script.{Script}
 use Rattle.cg_script.specs.declared.Command.{Command}
-use Rattle.cg_machine.specs.declared.event.Event.{Event}
 use Rattle.cg_machine.specs.declared.event.Event.TheVariants.{Collected}
 use Rattle.cg_machine.specs.declared.event.FrameSort.TheVariants.{Call as CallFrame}
-use Rattle.cg_machine.specs.World.{World, Activity, TopLevel, Framed, Releasing, Dying, Collecting, Frame, Outcome, Running, Ended, BudgetIsSpent, push, with_stack, ShuttingDown}
+use Rattle.cg_machine.specs.World.{World, Activity, TopLevel, Framed, Releasing, Dying, Collecting, Frame, Outcome, Running, push, with_stack, ShuttingDown}
 use Rattle.cg_machine.specs.Holdings.{is_collecting}
 use Rattle.cg_machine.specs.Frame.{Transition, frame_end, released, start_frame, procedure_of}
 use Rattle.cg_machine.specs.Dying.{dying}
@@ -13,7 +12,7 @@ use Rattle.cg_machine.specs.Effects.{Effect, Changes, Calls, Collects, Explains,
 use Rattle.cg_machine.specs.Commands.{effect, refused, DoesEffect, new_collection, without_commands}
 use Rattle.cg_machine.specs.Due.{due}
 use Rattle.cg_laws.proofs.DeterministicCollections.{plain_phase, plain_phase_steps}
-use Rattle.cg_machine.specs.Run.{StepTaken, Step, StepOf, Run, TopLevelStep, CommandInFrame, FrameStep}
+use Rattle.cg_machine.specs.Run.{StepTaken, StepOf, Run, TopLevelStep, CommandInFrame, FrameStep}
 use Rattle.cg_machine.specs.Program.{declares_shutdown}
 use Rattle.cg_machine.specs.Shutdown.{greatest_bound, shut_down, after_commands}
 use Rattle.cg_machine.specs.Refusals.{no_memory}
@@ -28,12 +27,9 @@ taken script w (Ok (Explains o)) = refused no_memory w
 taken script w (Ok Quits) = ([], with_stack (without_commands w.stack) w)
 
 pub taken_does : (script : Script) (w : World) (r : Result Effect ℕ) → DoesEffect script w r (taken script w r).0 (taken script w r).1
-taken_does script w (Err refusal) = (refl, refl)
 taken_does script w (Ok (Changes wants_memory lines given_up with_change)) = inl (refl, refl)
-taken_does script w (Ok (Calls f)) = (refl, refl)
-taken_does script w (Ok (Collects g)) = (refl, refl)
 taken_does script w (Ok (Explains o)) = inr (refl, refl)
-taken_does script w (Ok Quits) = (refl, refl)
+taken_does script w other = (refl, refl)
 
 abbrev pub top_level : Script → World → Option ℕ → List Command → List Activity → Transition
 top_level script w (Some g) commands below = ([], push (new_collection g false w) w)
@@ -42,9 +38,8 @@ top_level script w None (command ∷ commands) below = taken script (with_stack 
 
 pub top_level_steps : (script : Script) (w : World) (d : Option ℕ) (commands : List Command) (below : List Activity) → TopLevelStep script w d commands below
     (top_level script w d commands below).0 (top_level script w d commands below).1
-top_level_steps script w (Some g) commands below = (refl, refl)
-top_level_steps script w None [] below = (refl, refl)
 top_level_steps script w None (command ∷ commands) below = taken_does script (with_stack (TopLevel commands ∷ below) w) (effect (with_stack (TopLevel commands ∷ below) w) command)
+top_level_steps script w m commands below = (refl, refl)
 
 abbrev pub in_frame : Script → World → Option ℕ → Frame → Command → List Command → List Activity → Transition
 in_frame script w (Some g) f command commands below = ([], push (new_collection g false w) w)
@@ -83,14 +78,8 @@ pub next_steps : (script : Script) (w : World) (stack : List Activity) → HasTo
 next_steps script w [] h = absurd h
 next_steps script w (TopLevel commands ∷ below) h = top_level_steps script w (due w) commands below
 next_steps script w (Framed f ∷ below) h = framed_steps script w f f.commands below
-next_steps script w (Releasing references ∷ below) h = (refl, refl)
-next_steps script w (Dying d ∷ below) h = (refl, refl)
 next_steps script w (Collecting c ∷ below) h = plain_phase_steps script c c.phase below w
-next_steps script w (ShuttingDown started ∷ below) h = (refl, refl)
-
--- A running world with an activity has a step.
-pub progress : (script : Script) (w : World) → w.outcome ≡ Running → HasTop w.stack → (events : List Event) × (after : World) × Step script w events after
-progress script w running h = ((next_on script w w.stack).0, (next_on script w w.stack).1, record { running = running; step = next_steps script w w.stack h })
+next_steps script w a h = (refl, refl)
 
 abbrev pub next : Script → World → StepTaken
 next script w = record { events = (next_on script w w.stack).0; world = (next_on script w w.stack).1 }
@@ -98,8 +87,7 @@ next script w = record { events = (next_on script w w.stack).0; world = (next_on
 -- at most n steps, up to the end
 abbrev pub up_to_end : Outcome → List StepTaken → List StepTaken
 up_to_end Running steps = steps
-up_to_end Ended steps = []
-up_to_end BudgetIsSpent steps = []
+up_to_end other steps = []
 
 abbrev pub first_steps : Script → ℕ → World → List StepTaken
 first_steps script zero w = []
@@ -115,8 +103,7 @@ has_top_means (a ∷ below) h = tt
 
 abbrev pub to_end : Outcome → Bool → Bool
 to_end Running b = b
-to_end Ended b = true
-to_end BudgetIsSpent b = true
+to_end other b = true
 
 abbrev pub are_steps : Script → ℕ → World → Bool
 are_steps script zero w = true
@@ -124,15 +111,12 @@ are_steps script (suc n) w = to_end w.outcome (has_top w.stack && are_steps scri
 
 both : (a b : Bool) → T (a && b) → T a × T b
 both true true h = (tt, tt)
-both true false h = absurd h
-both false true h = absurd h
-both false false h = absurd h
+both b bit h = absurd h
 
 goes_on : (script : Script) (w : World) (steps : List StepTaken) (b : Bool) (o : Outcome) → (w.outcome ≡ Running → T b → Run script w steps) → w.outcome ≡ o
     → T (to_end o b) → Run script w (up_to_end o steps)
 goes_on script w steps b Running go e h = go e h
-goes_on script w steps b Ended go e h = tt
-goes_on script w steps b BudgetIsSpent go e h = tt
+goes_on script w steps b other go e h = tt
 
 pub first_steps_run : (script : Script) (n : ℕ) (w : World) → T (are_steps script n w) → Run script w (first_steps script n w)
 first_steps_run script zero w h = tt

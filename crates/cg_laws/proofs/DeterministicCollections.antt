@@ -179,13 +179,8 @@ plain_phase_steps script c Start below w = plain_start_steps script c below w
 plain_phase_steps script c (WeakClearing waiting) below w = plain_weak_steps_at (profile_of script.items) c waiting below w
     (newest (loses_in_weak_phase (profile_of script.items) w.objects) w.objects) (newest_spec (loses_in_weak_phase (profile_of script.items) w.objects)
     w.objects)
-plain_phase_steps script c (WeakCalling waiting) below w = (refl, refl)
-plain_phase_steps script c (AfterCallback weak waiting) below w = (refl, refl)
-plain_phase_steps script c (AfterRelease weak waiting) below w = (refl, refl)
 plain_phase_steps script c Finalizing below w = plain_finalizing_steps script c below w (serials_at w.objects Cand) refl
-plain_phase_steps script c (AfterFinalizing o) below w = (refl, refl)
 plain_phase_steps script c Split below w = plain_split_steps c below w
 plain_phase_steps script c Turns below w = plain_turns_steps c below w (objects_at w.objects Cand) refl
-plain_phase_steps script c (Turn o) below w = (refl, refl)
-plain_phase_steps script c (AfterTurn o) below w = (refl, refl)
 plain_phase_steps script c Ending below w = plain_end_steps script c below w
+plain_phase_steps script c phase below w = (refl, refl)

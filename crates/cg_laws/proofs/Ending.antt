@@ -1,7 +1,7 @@
 -- Every run is the beginning of a whole one, because each step lowers the measure.
 use Rattle.std.proofs.Common.{◌≡◌, ◌≢◌, refl, sym, ◌∙◌, ap, ℕ, zero, suc, ◌+◌, ◌<◌, ◌≤◌, List, [], ◌∷◌, ◌++◌, length, arith}
 use Rattle.cg_script.specs.declared.Script.{Script}
-use Rattle.cg_machine.specs.World.{World, Activity, Outcome, Running, Ended, BudgetIsSpent, opening}
+use Rattle.cg_machine.specs.World.{World, Activity, Outcome, Running, opening}
 use Rattle.cg_machine.specs.Run.{StepTaken, Step, Run, last_world}
 use Rattle.cg_laws.specs.Laws.{NoRunIsStuck}
 use Rattle.cg_laws.proofs.Deterministic.{next, next_steps, HasTop}
@@ -18,8 +18,7 @@ Ends script w = (more : List StepTaken) × Run script w more × ((last_world w m
 module _ (script : Script) where
   ended : (w : World) (o : Outcome) → w.outcome ≡ o → (w.outcome ≡ Running → Ends script w) → Ends script w
   ended w Running e go = go e
-  ended w Ended e go = ([], tt, λ r. let same : Ended ≡ Running = sym e ∙ r in cc)
-  ended w BudgetIsSpent e go = ([], tt, λ r. let same : BudgetIsSpent ≡ Running = sym e ∙ r in cc)
+  ended w other e go = ([], tt, λ r. let same : other ≡ Running = sym e ∙ r in cc)
 
   ends_from : (bound : ℕ) (w : World) → number_of script w < bound → Sound w → Ends script w
   ends_from zero w below sound = absurd (omega (arith, below))

@@ -4,7 +4,7 @@ use Rattle.std.proofs.Common.{◌≡◌, ◌≢◌, refl, sym, ◌∙◌, ap, su
 use Rattle.std.specs.Prelude.{◌==◌, option_and_then}
 use Rattle.std.proofs.lemmas.Bool.{eqb-true}
 use Rattle.cg_value.specs.declared.Place.{Place}
-use Rattle.cg_value.specs.declared.Place.TheVariants.{Untracked, Gen, Frozen, Cand, Seen, Back, Legacy, Pend}
+use Rattle.cg_value.specs.declared.Place.TheVariants.{Untracked, Gen, Cand, Seen, Back, Legacy, Pend}
 use Rattle.cg_script.specs.declared.Script.{Script}
 use Rattle.cg_graph.specs.Member.{Includes, includes}
 use Rattle.cg_graph.specs.Value.{references}
@@ -28,11 +28,7 @@ condemned_found : (p : Place) → (same_place p Cand || same_place p Seen) ≡ t
 condemned_found Cand e = tt
 condemned_found Seen e = tt
 condemned_found Legacy e = tt
-condemned_found Untracked e = let no : false ≡ true = e in cc
-condemned_found (Gen i) e = let no : false ≡ true = e in cc
-condemned_found Frozen e = let no : false ≡ true = e in cc
-condemned_found Back e = let no : false ≡ true = e in cc
-condemned_found Pend e = let no : false ≡ true = e in cc
+condemned_found p e = let no : false ≡ true = e in cc
 
 -- from the second pass on: what moves to the older generation, and what stays condemned
 pub late_at_gen : (g : ℕ) (x : Object) → IsInLatePhase (with_place (Gen g) x)

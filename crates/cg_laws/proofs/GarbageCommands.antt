@@ -10,7 +10,7 @@ use Rattle.cg_graph.specs.Value.{put}
 use Rattle.cg_graph.specs.Object.{Object, with_entries}
 use Rattle.cg_machine.specs.World.{World, with_change}
 use Rattle.cg_machine.specs.Weak.{is_instance}
-use Rattle.cg_machine.specs.Effects.{Effect, Changes, Calls, Collects, Explains, Quits, tracked_by, frozen, unfrozen}
+use Rattle.cg_machine.specs.Effects.{Effect, Changes, tracked_by, frozen, unfrozen}
 use Rattle.cg_machine.specs.Operands.{is_dict}
 use Rattle.cg_laws.proofs.Lookups.{references_of_member}
 use Rattle.cg_laws.proofs.HeldLivesDeaths.{false_true}
@@ -23,10 +23,7 @@ use Rattle.cg_laws.proofs.GarbageKept.{HasGarbageList, KeepsList, same_list, lis
 module _ (w : World) (garbage : HasGarbageList w.objects) (made : 1 < w.next_serial) where
   abbrev pub IsKept : Effect → Type 0
   IsKept (Changes wants_memory lines given_up after) = KeepsList w.objects after.objects
-  IsKept (Calls f) = Unit {0}
-  IsKept (Collects g) = Unit {0}
-  IsKept (Explains o) = Unit {0}
-  IsKept Quits = Unit {0}
+  IsKept effect = Unit {0}
 
   -- an object other than the garbage list
   other_object : (command : Command) (x : Object) → HasObject w command (λ y. is_dict y || is_instance y) x → x.serial ≢ 1

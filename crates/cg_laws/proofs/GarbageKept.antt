@@ -1,6 +1,6 @@
 -- Only a collection's steps change the garbage list: any other step keeps it an untracked list, and adds no name to it.
-use Rattle.std.proofs.Common.{◌≡◌, ◌≢◌, refl, sym, ◌∙◌, ap, subst, ℕ, Bool, true, false, not, List, [], ◌∷◌, ◌++◌, map, Option, Some, None}
-use Rattle.std.specs.Prelude.{◌==◌, if◌then◌else◌, option_map, unwrap_or}
+use Rattle.std.proofs.Common.{◌≡◌, ◌≢◌, refl, sym, ◌∙◌, ap, subst, ℕ, not, List, [], ◌∷◌, ◌++◌, map, Option, Some, None}
+use Rattle.std.specs.Prelude.{◌==◌, option_map, unwrap_or}
 use Rattle.std.proofs.lemmas.Bool.{eqb-true}
 use Rattle.cg_value.specs.declared.Place.{Place}
 use Rattle.cg_value.specs.declared.Place.TheVariants.{Untracked}
@@ -8,7 +8,7 @@ use Rattle.cg_graph.specs.Member.{Includes}
 use Rattle.cg_graph.specs.Value.{references}
 use Rattle.cg_graph.specs.Object.{Object, change, entries_of, object_at, without, with_place}
 use Rattle.cg_graph.proofs.Members.{either, Includes-append_cases, Includes-map_cases, Includes-filter_cases}
-use Rattle.cg_represents.proofs.Lists.{found_at}
+use Rattle.cg_represents.proofs.Lists.{found_at, each_changed}
 use Rattle.cg_laws.specs.Apart.{IsGarbageList}
 
 abbrev pub HasGarbageList : List Object → Type 0
@@ -50,13 +50,8 @@ same_list objects y m e = record { was = y; member = m; serial = e; code = refl;
 -- the changed object is not the garbage list, or keeps what it names
 pub list_kept : (f : Object → Object) (s : ℕ) (objects : List Object) → ((x : Object) → (f x).serial ≡ x.serial) → ((x : Object) → Includes objects x → x.serial
     ≡ s → x.serial ≡ 1 → IsOfList objects (f x)) → KeepsList objects (change f s objects)
-list_kept f s objects same keeps y m e =
-    let x = Includes-map_cases (λ x. if x.serial == s then f x else x) objects y m in
-    subst (IsOfList objects) x.2 (one (x.0.serial == s) x.0 refl x.1 (ap (λ (z : Object). z.serial) x.2 ∙ e))
-  where
-    one : (b : Bool) (x : Object) → (x.serial == s) ≡ b → Includes objects x → (if b then f x else x).serial ≡ 1 → IsOfList objects (if b then f x else x)
-    one true x t k i = keeps x k (eqb-true x.serial s t) (sym (same x) ∙ i)
-    one false x t k i = same_list objects x k i
+list_kept f s objects same keeps = each_changed (λ z. z.serial ≡ 1 → IsOfList objects z) f (λ x. x.serial == s) objects
+    (λ x k t i. keeps x k (eqb-true x.serial s t) (sym (same x) ∙ i)) (λ x k t i. same_list objects x k i)
 
 pub other_kept : (f : Object → Object) (s : ℕ) (objects : List Object) → ((x : Object) → (f x).serial ≡ x.serial) → s ≢ 1 → KeepsList objects (change f s objects)
 other_kept f s objects same apart = list_kept f s objects same (λ x m i e. absurd (apart (sym i ∙ e)))

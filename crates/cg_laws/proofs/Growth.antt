@@ -12,14 +12,14 @@ use Rattle.cg_graph.specs.Object.{Object, change, with_entries, with_place, is_t
 use Rattle.cg_graph.specs.Value.{reference_in, value_at, put, same_value, references_of_value}
 use Rattle.cg_script.specs.declared.Command.{Command}
 use Rattle.cg_machine.specs.World.{World, Numbers, with_change}
-use Rattle.cg_machine.specs.Effects.{Effect, Changes, Calls, Collects, Explains, Quits, replaced, frozen, unfrozen, tracked_by, may_track, given_up_by}
+use Rattle.cg_machine.specs.Effects.{Effect, Changes, Calls, replaced, frozen, unfrozen, tracked_by, may_track, given_up_by}
 use Rattle.cg_machine.specs.Operands.{is_dict}
 use Rattle.cg_represents.specs.Orderly.{HasFunction}
 use Rattle.cg_laws.proofs.Sums.{bit, tally-append, tally-map_le}
 use Rattle.cg_represents.proofs.Serials.{Rises, change-below}
 use Rattle.cg_laws.proofs.Measure.{entries_in, referents_in, size_of, bound_names}
 use Rattle.cg_laws.proofs.FewerEntries.{Same, map_stays, if_same}
-use Rattle.cg_represents.proofs.Shapes.{Shape, Binds, Makes, Edits, Puts, Shows, Tells, Stays, Sets, Freezes, Unfreezes, StartsFrame, StartsCollection, Ends, Inspects, AsksWhy}
+use Rattle.cg_represents.proofs.Shapes.{Shape, Binds, Makes, Edits, Puts, Sets, Freezes, Unfreezes, StartsFrame, StartsCollection, Ends, AsksWhy}
 use Rattle.cg_laws.proofs.ShapeLaws.{shape_gives_few}
 use Rattle.cg_laws.proofs.Lookups.{serial_from}
 use Rattle.cg_value.specs.declared.Val.TheVariants.{Ref}
@@ -34,9 +34,7 @@ pub record Grows (w after : World) (given_up : List ℕ) : Type 0 where
 abbrev pub GrowsBy : World → Effect → Type 0
 GrowsBy w (Changes wants_memory lines given_up after) = Grows w after given_up
 GrowsBy w (Calls f) = HasFunction w.objects f
-GrowsBy w (Collects g) = Unit {0}
-GrowsBy w (Explains o) = Unit {0}
-GrowsBy w Quits = Unit {0}
+GrowsBy w effect = Unit {0}
 
 changed_entries : (f : Object → Object) (low high : ℕ) (objects : List Object) (x : Object) → Rises low high objects → Includes objects x
     → entries_in (change f x.serial objects) + length x.entries ≡ entries_in objects + length (f x).entries
@@ -95,9 +93,6 @@ bound_one [] name v = omega arith
 bound_one (u ∷ names) zero v = omega (arith, bit_one (is_some v))
 bound_one (u ∷ names) (suc name) v = omega (arith, bound_one names name v)
 
-binding : (w : World) (name : ℕ) (v : Option Val) → Grows w (record w { names = slice_set w.names name v }) (given_up_by w name)
-binding w name v = stays_so w (slice_set w.names name v) w.numbers (given_up_by w name) (bound_one w.names name v) (name_one w name)
-
 abbrev made : World → KindCode → Option ℕ → List Entry → Option ℕ → Object
 made w kind class entries referent = record { serial = w.next_serial; code = kind; class = class; entries = entries; place = first_place kind; finalized = false; referent = referent }
 
@@ -121,7 +116,7 @@ with_entries_same : (es : List Entry) → Same (with_entries es)
 with_entries_same es = record { serial = λ x. refl; referent = λ x. refl }
 
 pub shape_grows : (w : World) → Rises 1 w.next_serial w.objects → (command : Command) (e : Effect) → Shape w command e → GrowsBy w e
-shape_grows w r command e (Binds name v own hand) = binding w name _
+shape_grows w r command e (Binds name v own hand) = stays_so w (slice_set w.names name _) w.numbers (given_up_by w name) (bound_one w.names name _) (name_one w name)
 shape_grows w r command e (Makes name kind class entries referent own parts) = record {
   names = bound_one w.names name (Some (Ref w.next_serial));
   size = omega (arith, tally-append (λ (x : Object). 1) w.objects (made w kind class entries referent ∷ []));
@@ -135,14 +130,11 @@ shape_grows w r command e (Puts x key v h mutable hand_key hand room) = sets w (
     (record { serial = λ y. (tracked_same w key v (with_entries (put x.entries key v) y)).0; referent = λ y. (tracked_same w key v (with_entries (put x.entries key v) y)).1 })
     x (references_of_value (value_at x.entries key)) r h.member
     (omega (arith, length-put x.entries key v, ap length (tracked_same w key v (with_entries (put x.entries key v) x)).2)) (value_one (value_at x.entries key))
-shape_grows w r command e (Shows v hand) = stays_so w w.names w.numbers [] (omega arith) (omega arith)
-shape_grows w r command e (Tells line tells) = stays_so w w.names w.numbers [] (omega arith) (omega arith)
-shape_grows w r command e Stays = stays_so w w.names w.numbers [] (omega arith) (omega arith)
 shape_grows w r command e (Sets numbers own keeps) = stays_so w w.names numbers [] (omega arith) (omega arith)
 shape_grows w r command e (Freezes is) = places w frozen _
 shape_grows w r command e (Unfreezes is) = places w unfrozen _
 shape_grows w r command e (StartsFrame f h) = (f, h.member, refl, h.passes)
 shape_grows w r command e (StartsCollection g low) = tt
 shape_grows w r command e Ends = tt
-shape_grows w r command e (Inspects lines calm there) = stays_so w w.names w.numbers [] (omega arith) (omega arith)
 shape_grows w r command e (AsksWhy x h calm) = tt
+shape_grows w r command e shape = stays_so w w.names w.numbers [] (omega arith) (omega arith)

@@ -12,13 +12,13 @@ use Rattle.cg_graph.specs.Object.{Object, change, without, serials, with_entries
 use Rattle.cg_graph.specs.Holdings.{name_holdings, occurrences}
 use Rattle.cg_graph.proofs.Members.{either, Includes-append_left, Includes-append_right, Includes-append_cases, Includes-map, Includes-map_cases, Includes-filter, Includes-filter_cases}
 use Rattle.cg_graph.proofs.Objects.{occurrences-append}
-use Rattle.cg_machine.specs.World.{Activity, TopLevel, Framed, Releasing, Dying, Collecting, ShuttingDown, Death, DyingPhase, Finalizer, AfterFinalizer, Clearing, Calling, AfterCall, LegacyFinalizer, AfterLegacy, Detaching, Emptying, Collection, CollectPhase, Start, WeakClearing, WeakCalling, AfterCallback, AfterRelease, Finalizing, AfterFinalizing, Split, Turns, Turn, AfterTurn, Ending}
+use Rattle.cg_machine.specs.World.{Activity, Dying, Collecting, Death, DyingPhase, Clearing, Calling, AfterCall, Collection, CollectPhase, WeakClearing, WeakCalling, AfterCallback, AfterRelease, Turn}
 use Rattle.cg_machine.specs.Holdings.{holds, dying_holds, collect_holds}
 use Rattle.cg_machine.specs.Weak.{callback_in, is_function}
 use Rattle.cg_machine.specs.Collect.{is_condemned}
 use Rattle.cg_represents.specs.Orderly.{death_waits, collection_waits, waits_of, all_waits, IsWaiting, HasFunction}
-use Rattle.cg_represents.proofs.Lists.{occurrences-cons, no_times}
-use Rattle.cg_laws.proofs.Unreferred.{IsLater, Alters, later_refl, if_alters, entries_alter, lives_after, some_later, none_later}
+use Rattle.cg_represents.proofs.Lists.{occurrences-cons, no_times, each_changed}
+use Rattle.cg_laws.proofs.Unreferred.{IsLater, Alters, later_refl, if_alters, entries_alter, lives_after, some_later, none_later, still_later}
 
 -- a collection clears weak references
 abbrev pub IsClearingPhase : CollectPhase → Type 0
@@ -123,57 +123,39 @@ from_same objects stack names x y h m later entries condemned = record {
   condemned = condemned;
 }
 
-pub if_orderly : (f : Object → Object) (test : Object → Bool) (objects : List Object) (names : List (Option Val)) (stack : List Activity)
+pub if_orderly : (f : Object → Object) (test : Object → Bool) {objects : List Object} {names : List (Option Val)} {stack : List Activity}
     → ((x : Object) → IsLater x (f x)) → ((x : Object) → (f x).entries ≡ x.entries)
     → ((x : Object) → Includes objects x → test x ≡ true → is_condemned (f x) ≡ true → (is_condemned x ≡ true) ⊎ IsClearing stack
     × (¬ Includes (all_waits stack) x.serial)) → Orderly objects names stack
     → Orderly (map (λ x. if test x then f x else x) objects) names stack
-if_orderly f test objects names stack later entries condemned h = objects_orderly objects (map change_of objects) names stack (if_alters f later test objects) from h
-  where
-    change_of : Object → Object
-    change_of x = if test x then f x else x
-
-    one : (b : Bool) (x : Object) → test x ≡ b → Includes objects x → From objects stack (if b then f x else x)
-    one true x e m = from_same objects stack names x (f x) h m (later x) (entries x) (λ k. subst (λ s. (is_condemned x ≡ true) ⊎ IsClearing stack
-        × (¬ Includes (all_waits stack) s)) (sym (later x).serial) (condemned x m e k))
-    one false x e m = from_same objects stack names x x h m (later_refl x) refl (λ k. inl k)
-
-    from : (y : Object) → Includes (map change_of objects) y → From objects stack y
-    from y m = let x = Includes-map_cases change_of objects y m in subst (From objects stack) x.2 (one (test x.0) x.0 refl x.1)
+if_orderly f test {objects = objects} {names = names} {stack = stack} later entries condemned h = objects_orderly objects (map (λ x. if test x then f x else x) objects) names stack (if_alters f later test objects)
+    (each_changed (From objects stack) f test objects (λ x m e. from_same objects stack names x (f x) h m (later x) (entries x) (λ k. subst (λ s. (is_condemned x ≡ true)
+    ⊎ IsClearing stack × (¬ Includes (all_waits stack) s)) (sym (later x).serial) (condemned x m e k))) (λ x m e. from_same objects stack names x x h m (later_refl x) refl (λ k. inl k))) h
 
 -- Its new entries are old ones, or live if it is no weak reference.
-pub entries_orderly : (s : ℕ) (es : List Entry) (objects : List Object) (names : List (Option Val)) (stack : List Activity) → (¬ Includes (all_waits stack) s)
+pub entries_orderly : (s : ℕ) (es : List Entry) {objects : List Object} {names : List (Option Val)} {stack : List Activity} → (¬ Includes (all_waits stack) s)
     → ((f : ℕ) → Includes (references es) f → Includes (serials objects) f)
     → ((x : Object) → Includes objects x → x.serial ≡ s → x.code ≡ Weak → (f : ℕ) → Includes (references es) f → Includes (references x.entries) f)
     → ((x : Object) → Includes objects x → x.serial ≡ s → x.code ≡ Weak → callback_in x.entries ≡ None → callback_in es ≡ None)
     → Orderly objects names stack → Orderly (change (with_entries es) s objects) names stack
-entries_orderly s es objects names stack apart live fewer quiet h = objects_orderly objects (map change_of objects) names stack (entries_alter es s objects) from h
-  where
-    change_of : Object → Object
-    change_of x = if x.serial == s then with_entries es x else x
-
-    one : (b : Bool) (x : Object) → (x.serial == s) ≡ b → Includes objects x → From objects stack (if b then with_entries es x else x)
-    one true x e m = record {
+entries_orderly s es {objects = objects} {names = names} {stack = stack} apart live fewer quiet h = objects_orderly objects (change (with_entries es) s objects) names stack (entries_alter es s objects)
+    (each_changed (From objects stack) (with_entries es) (λ x. x.serial == s) objects (λ x m e. record {
       was = x;
       member = m;
-      later = record { serial = refl; code = refl; class = refl; referent = inl refl };
+      later = still_later;
       same = λ k. absurd (apart (subst (Includes (all_waits stack)) (eqb-true x.serial s e) k));
       live = live;
       fewer = λ w. fewer x m (eqb-true x.serial s e) w;
       quiet = λ w. quiet x m (eqb-true x.serial s e) w;
       condemned = λ k. inl k;
-    }
-    one false x e m = from_same objects stack names x x h m (later_refl x) refl (λ k. inl k)
-
-    from : (y : Object) → Includes (map change_of objects) y → From objects stack y
-    from y m = let x = Includes-map_cases change_of objects y m in subst (From objects stack) x.2 (one (x.0.serial == s) x.0 refl x.1)
+    }) (λ x m e. from_same objects stack names x x h m (later_refl x) refl (λ k. inl k))) h
 
 -- Something that waits for nothing goes on top.
-pub push_orderly : (a : Activity) (objects : List Object) (names : List (Option Val)) (stack : List Activity) → waits_of a ≡ [] → (IsClearing stack → ⊥)
+pub push_orderly : (a : Activity) {objects : List Object} {names : List (Option Val)} {stack : List Activity} → waits_of a ≡ [] → (IsClearing stack → ⊥)
     → ((o : ℕ) → Includes (holds a) o → Includes (serials objects) o)
     → ((d : Death) → a ≡ Dying d → Includes (serials objects) d.object) → ((c : Collection) (o : ℕ) → a ≡ Collecting c → c.phase ≢ Turn o)
     → Orderly objects names stack → Orderly objects names (a ∷ stack)
-push_orderly a objects names stack none still held death turn h = record {
+push_orderly a {stack = stack} none still held death turn h = record {
   names_live = h.names_live;
   root_lives = h.root_lives;
   entries_live = h.entries_live;
@@ -191,9 +173,9 @@ push_orderly a objects names stack none still held death turn h = record {
     same : all_waits (a ∷ stack) ≡ all_waits stack
     same = ap (λ ws. ws ++ all_waits stack) none
 
-pub pop_orderly : (a : Activity) (objects : List Object) (names : List (Option Val)) (below : List Activity) → (IsClearing (a ∷ below) → ⊥)
+pub pop_orderly : (a : Activity) {objects : List Object} {names : List (Option Val)} {below : List Activity} → (IsClearing (a ∷ below) → ⊥)
     → Orderly objects names (a ∷ below) → Orderly objects names below
-pop_orderly a objects names below still h = record {
+pop_orderly a {below = below} still h = record {
   names_live = h.names_live;
   root_lives = h.root_lives;
   entries_live = h.entries_live;
@@ -249,12 +231,12 @@ turn_orderly a b objects names below t h = record {
     apart : (c : Collection) → Includes below (Collecting c) → (o : ℕ) → c.phase ≡ Turn o → ¬ Includes (all_waits (a ∷ below)) o → ¬ Includes (all_waits (b ∷ below)) o
     apart c m o e free n = either (Includes-append_cases (waits_of b) (all_waits below) o n) (t.apart c m o e) (λ k. free (Includes-append_right (waits_of a) (all_waits below) o k))
 
-pub turns_fewer : (a b : Activity) (objects : List Object) (names : List (Option Val)) (below : List Activity) → Orderly objects names (a ∷ below)
+pub turns_fewer : (a b : Activity) {objects : List Object} {names : List (Option Val)} {below : List Activity} → Orderly objects names (a ∷ below)
     → ((o : ℕ) → Includes (holds b) o → Includes (serials objects) o) → ((d : Death) → b ≡ Dying d → Includes (serials objects) d.object)
     → ((weak : ℕ) → Includes (waits_of b) weak → Includes (waits_of a) weak) → ((weak : ℕ) → occurrences weak (waits_of b) ≤ occurrences weak (waits_of a))
     → ((c : Collection) (o : ℕ) → b ≡ Collecting c → c.phase ≡ Turn o → (¬ Includes (all_waits (a ∷ below)) o) × ((x : Object) → Includes objects x → x.serial ≡ o → CallsNone x))
     → ((x : Object) → Includes objects x → is_condemned x ≡ true → MayRefer x.entries (a ∷ below) → (x.referent ≡ None) ⊎ MayRefer x.entries (b ∷ below)) → Orderly objects names (b ∷ below)
-turns_fewer a b objects names below h held death fewer count turn clearing = turn_orderly a b objects names below (record {
+turns_fewer a b {objects = objects} {names = names} {below = below} h held death fewer count turn clearing = turn_orderly a b objects names below (record {
   held = held;
   death = death;
   waits = λ weak m. inl (fewer weak m);
@@ -268,12 +250,12 @@ turns_fewer a b objects names below h held death fewer count turn clearing = tur
   clearing = clearing;
 }) h
 
-pub turns_more : (a b : Activity) (s : ℕ) (objects : List Object) (names : List (Option Val)) (below : List Activity) → Orderly objects names (a ∷ below)
+pub turns_more : (a b : Activity) (s : ℕ) {objects : List Object} {names : List (Option Val)} {below : List Activity} → Orderly objects names (a ∷ below)
     → ((o : ℕ) → Includes (holds b) o → Includes (serials objects) o) → ((d : Death) → b ≡ Dying d → Includes (serials objects) d.object)
     → waits_of b ≡ waits_of a ++ s ∷ [] → (¬ Includes (all_waits (a ∷ below)) s) → ((x : Object) → Includes objects x → x.serial ≡ s → IsWaiting x × (is_condemned x ≡ false))
     → ((c : Collection) → Includes below (Collecting c) → (o : ℕ) → c.phase ≡ Turn o → s ≢ o) → ((c : Collection) (o : ℕ) → b ≡ Collecting c → c.phase ≢ Turn o)
     → ((x : Object) → Includes objects x → is_condemned x ≡ true → MayRefer x.entries (a ∷ below) → (x.referent ≡ None) ⊎ MayRefer x.entries (b ∷ below)) → Orderly objects names (b ∷ below)
-turns_more a b s objects names below h held death more new is apart turn clearing = turn_orderly a b objects names below (record {
+turns_more a b s {objects = objects} {names = names} {below = below} h held death more new is apart turn clearing = turn_orderly a b objects names below (record {
   held = held;
   death = death;
   waits = λ weak m. either (cases weak m) (λ k. inl k) (λ e. inr (subst (λ q. ¬ Includes (all_waits (a ∷ below)) q) e new, λ x k i. is x k (i ∙ sym e)));
@@ -301,22 +283,13 @@ turns_more a b s objects names below h held death more new is apart turn clearin
 
 -- what waits is held
 pub waits_are_held : (a : Activity) (weak : ℕ) → Includes (waits_of a) weak → Includes (holds a) weak
-waits_are_held (TopLevel commands) weak m = absurd m
-waits_are_held (Framed f) weak m = absurd m
-waits_are_held (Releasing references) weak m = absurd m
 waits_are_held (Dying d) weak m = death d.phase m
   where
     death : (phase : DyingPhase) → Includes (death_waits phase) weak → Includes (dying_holds d.object phase) weak
     death (Clearing waiting) k = k
     death (Calling waiting) k = k
     death (AfterCall reference callback waiting) k = inr (inr k)
-    death Finalizer k = absurd k
-    death AfterFinalizer k = absurd k
-    death LegacyFinalizer k = absurd k
-    death AfterLegacy k = absurd k
-    death Detaching k = absurd k
-    death Emptying k = absurd k
-waits_are_held (ShuttingDown started) weak m = absurd m
+    death phase k = absurd k
 waits_are_held (Collecting c) weak m = collection c.phase m
   where
     collection : (phase : CollectPhase) → Includes (collection_waits phase) weak → Includes (collect_holds phase) weak
@@ -324,14 +297,8 @@ waits_are_held (Collecting c) weak m = collection c.phase m
     collection (WeakCalling waiting) k = k
     collection (AfterCallback reference waiting) k = k
     collection (AfterRelease reference waiting) k = k
-    collection Start k = absurd k
-    collection Finalizing k = absurd k
-    collection (AfterFinalizing o) k = absurd k
-    collection Split k = absurd k
-    collection Turns k = absurd k
-    collection (Turn o) k = absurd k
-    collection (AfterTurn o) k = absurd k
-    collection Ending k = absurd k
+    collection phase k = absurd k
+waits_are_held a weak m = absurd m
 
 pub waits_held : (stack : List Activity) (weak : ℕ) → Includes (all_waits stack) weak → Includes (flat_map holds stack) weak
 waits_held [] weak m = m

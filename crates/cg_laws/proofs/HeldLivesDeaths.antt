@@ -1,6 +1,6 @@
 -- Releases, frames and deaths keep the invariant of held objects.
-use Rattle.std.proofs.Common.{◌≡◌, ◌≢◌, refl, sym, ◌∙◌, ap, subst, ℕ, ◌-◌, ◌≤◌, Bool, true, false, cond, not, length, inl, inr, List, [], ◌∷◌, ◌++◌, Option, Some, None, arith, suc}
-use Rattle.std.specs.Prelude.{◌==◌, ◌&&◌, if◌then◌else◌, flat_map, is_some, option_to_list, option_map, option_and_then, unwrap_or, take, ◌-◌}
+use Rattle.std.proofs.Common.{◌≡◌, ◌≢◌, refl, sym, ◌∙◌, ap, subst, ℕ, ◌-◌, ◌≤◌, Bool, true, false, cond, length, inl, inr, List, [], ◌∷◌, ◌++◌, Option, Some, None, arith, suc}
+use Rattle.std.specs.Prelude.{◌==◌, if◌then◌else◌, flat_map, is_some, option_to_list, option_map, option_and_then, unwrap_or, take, ◌-◌}
 use Rattle.std.proofs.lemmas.Bool.{cases_Bool, eq-eqb}
 use Rattle.cg_value.specs.declared.Entry.{Entry}
 use Rattle.cg_value.specs.declared.Val.{Val}
@@ -15,20 +15,19 @@ use Rattle.cg_graph.proofs.Objects.{occurrences-append}
 use Rattle.cg_machine.specs.declared.event.FrameSort.{FrameSort}
 use Rattle.cg_machine.specs.declared.event.FrameSort.TheVariants.{Del, Legacy, Callback, Call}
 use Rattle.cg_machine.specs.declared.event.FrameSpec.{FrameSpec}
-use Rattle.cg_machine.specs.declared.event.Event.TheVariants.{Alive}
 use Rattle.cg_machine.specs.Program.{legacy_of}
 use Rattle.cg_machine.specs.World.{push, World, Activity, Framed, Releasing, Dying, Frame, Death, DyingPhase, Finalizer, AfterFinalizer, Clearing, Calling, AfterCall, LegacyFinalizer, AfterLegacy, Detaching, Emptying, with_stack, with_change}
-use Rattle.cg_machine.specs.Frame.{Transition, start_frame, frame_end, gives_up_function, begin_death, released, procedure_of}
-use Rattle.cg_machine.specs.Holdings.{holds, call_holds, dying_holds, in_degree, is_dying}
+use Rattle.cg_machine.specs.Frame.{start_frame, frame_end, gives_up_function, released, procedure_of}
+use Rattle.cg_machine.specs.Holdings.{holds, call_holds, dying_holds}
 use Rattle.cg_machine.specs.Weak.{has_weak_references, weak_references_if, loses_referent, callback_in, callback_of}
 use Rattle.cg_machine.specs.Dying.{death_at, has_finalizers, finalizer_to_run, run_finalizer, run_legacy, after_frame, clear_one, call_one, detach_one, empty_one, dying}
 use Rattle.cg_machine.specs.Collect.{is_condemned}
 use Rattle.cg_represents.specs.Orderly.{death_waits, all_waits, IsWaiting}
-use Rattle.cg_laws.proofs.Starting.{begun_frame, starts_either}
+use Rattle.cg_laws.proofs.Starting.{begun_frame, starts_either, own_frame_either, release_either, option_either, list_either}
 use Rattle.cg_represents.proofs.Serials.{Rises}
 use Rattle.cg_represents.proofs.Lists.{occurrences-cons, found_at, slice_get_member, absent}
 use Rattle.cg_laws.proofs.MeasureInDeaths.{refers_first}
-use Rattle.cg_laws.proofs.Unreferred.{IsLater, entries_alter, change_alters, lives_after, lost_alters}
+use Rattle.cg_laws.proofs.Unreferred.{IsLater, entries_alter, change_alters, lives_after, lost_alters, still_later, lost_later}
 use Rattle.cg_laws.proofs.Unheld.{Calm, not_dying, popped_free}
 use Rattle.cg_laws.proofs.Lookups.{same_object, callback_at, callback_first, references_of_member, references_take, at_member}
 use Rattle.cg_laws.proofs.UnheldDeaths.{some_not_none}
@@ -38,55 +37,47 @@ abbrev pub HasOrder : World → Type 0
 HasOrder w = Orderly w.objects w.names w.stack
 
 -- one object changes place, mark or referent, and is not condemned afterwards
-pub one_orderly : (f : Object → Object) (o : ℕ) (objects : List Object) (names : List (Option Val)) (stack : List Activity) → ((x : Object) → IsLater x (f x))
+pub one_orderly : (f : Object → Object) (o : ℕ) {objects : List Object} {names : List (Option Val)} {stack : List Activity} → ((x : Object) → IsLater x (f x))
     → ((x : Object) → (f x).entries ≡ x.entries)
     → ((x : Object) → is_condemned (f x) ≡ true → is_condemned x ≡ true) → Orderly objects names stack → Orderly (change f o objects) names stack
-one_orderly f o objects names stack later entries condemned h = if_orderly f (λ x. x.serial == o) objects names stack later entries (λ x m e k. inl (condemned x k)) h
+one_orderly f o {objects = objects} {names = names} {stack = stack} later entries condemned h = if_orderly f (λ x. x.serial == o) later entries (λ x m e k. inl (condemned x k)) h
 
-pub lost_orderly : (weak : ℕ) (objects : List Object) (names : List (Option Val)) (stack : List Activity) → Orderly objects names stack → Orderly (loses_referent weak objects) names stack
-lost_orderly weak objects names stack h = one_orderly (with_referent None) weak objects names stack (λ x. record {
-  serial = refl;
-  code = refl;
-  class = refl;
-  referent = inr refl;
-}) (λ x. refl) (λ x e. e) h
+pub lost_orderly : (weak : ℕ) {objects : List Object} {names : List (Option Val)} {stack : List Activity} → Orderly objects names stack → Orderly (loses_referent weak objects) names stack
+lost_orderly weak h = one_orderly (with_referent None) weak (λ x. lost_later) (λ x. refl) (λ x e. e) h
 
 pub false_true : {P : Type 0} → false ≡ true → P
 false_true e = absurd (cc)
 
 pub starts_orderly : (script : Script) (spec : FrameSpec) (u : World) → (IsClearing u.stack → ⊥) → ((o : ℕ) → Includes (call_holds spec.sort spec.func) o
     → Includes (serials u.objects) o) → HasOrder u → HasOrder (start_frame script spec u).1
-starts_orderly script spec u still held h = starts_either (λ lines. HasOrder) script spec u h (λ some. push_orderly (begun_frame script spec) u.objects u.names
-    u.stack refl still held (λ d e. cc) (λ c o e. cc) h)
+starts_orderly script spec u still held h = starts_either (λ lines. HasOrder) script spec u h (λ some. push_orderly (begun_frame script spec) refl still held (λ d e. cc) (λ c o e. cc) h)
 
 pub gives_up_orderly : (given_up : List ℕ) (u : World) → (IsClearing u.stack → ⊥) → ((o : ℕ) → Includes given_up o → Includes (serials u.objects) o)
     → HasOrder u → HasOrder (push (Releasing given_up) u)
-gives_up_orderly given_up u still held h = push_orderly (Releasing given_up) u.objects u.names u.stack refl still held (λ d e. cc) (λ c o e. cc) h
+gives_up_orderly given_up u still held h = push_orderly (Releasing given_up) refl still held (λ d e. cc) (λ c o e. cc) h
 
 pub frame_end_orderly : (f : Frame) (below : List Activity) (v : World) → HasOrder (with_stack (Framed f ∷ below) v) → HasOrder (frame_end f (with_stack below v)).1
 frame_end_orderly f below v h = by_sort f.sort f.function (λ o k. h.stack_lives o (Includes-append_left (call_holds f.sort f.function) (flat_map holds below) o k))
   where
-    popped : HasOrder (with_stack below v)
-    popped = pop_orderly (Framed f) v.objects v.names below (λ k. k) h
-
     by_sort : (sort : FrameSort) (function : Option ℕ) → ((o : ℕ) → Includes (call_holds sort function) o → Includes (serials v.objects) o)
         → HasOrder (gives_up_function sort function (with_stack below v))
-    by_sort Del function live = popped
-    by_sort Legacy function live = popped
-    by_sort Callback function live = popped
-    by_sort Call function live = turns_fewer (Framed f) (Releasing (option_to_list function)) v.objects v.names below h live (λ d e. cc) (λ weak m. m)
+    by_sort Call function live = turns_fewer (Framed f) (Releasing (option_to_list function)) h live (λ d e. cc) (λ weak m. m)
         (λ weak. omega arith) (λ c o e. cc) (λ x m e k. inr k)
+    by_sort sort function live = pop_orderly (Framed f) (λ k. k) h
 
 pub released_orderly : (references : List ℕ) (below : List Activity) (v : World) → HasOrder (with_stack (Releasing references ∷ below) v)
     → HasOrder (released references below (with_stack (Releasing references ∷ below) v)).1
-released_orderly [] below v h = pop_orderly (Releasing []) v.objects v.names below (λ k. k) h
-released_orderly (o ∷ references) below v h = go (not (is_dying now o) && (in_degree now o == 0))
+released_orderly [] below v h = pop_orderly (Releasing []) (λ k. k) h
+released_orderly (o ∷ references) below v h = release_either (λ lines. HasOrder) o references below v
+    (λ t. push_orderly (Dying (record { object = o; phase = Finalizer })) refl (λ k. k)
+    (λ s k. absurd k) (λ d e. subst (λ (x : Death). Includes (serials (change dead o v.objects)) x.object) (death_is d e) lives) (λ c s e. cc) moved)
+    (λ t. rest)
   where
     now : World
     now = with_stack (Releasing references ∷ below) v
 
     rest : HasOrder now
-    rest = turns_fewer (Releasing (o ∷ references)) (Releasing references) v.objects v.names below h
+    rest = turns_fewer (Releasing (o ∷ references)) (Releasing references) h
         (λ s m. h.stack_lives s (inr (Includes-append_left references (flat_map holds below) s m))) (λ d e. cc) (λ weak m. m) (λ weak. omega arith)
         (λ c s e. cc) (λ x m e k. inr k)
 
@@ -94,22 +85,17 @@ released_orderly (o ∷ references) below v h = go (not (is_dying now o) && (in_
     dead x = with_referent None (with_place Untracked x)
 
     moved : Orderly (change dead o v.objects) v.names (Releasing references ∷ below)
-    moved = one_orderly dead o v.objects v.names (Releasing references ∷ below) (λ x. record { serial = refl; code = refl; class = refl; referent = inr refl }) (λ x. refl) (λ x e. false_true e) rest
+    moved = one_orderly dead o (λ x. lost_later) (λ x. refl) (λ x e. false_true e) rest
 
     lives : Includes (serials (change dead o v.objects)) o
     lives = lives_in moved
       where
         lives_in : Orderly (change dead o v.objects) v.names (Releasing references ∷ below) → Includes (serials (change dead o v.objects)) o
         lives_in k = lives_after v.objects (change dead o v.objects)
-            (change_alters dead (λ x. record { serial = refl; code = refl; class = refl; referent = inr refl }) o v.objects) o (h.stack_lives o (inl refl))
+            (change_alters dead (λ x. lost_later) o v.objects) o (h.stack_lives o (inl refl))
 
-    go : (b : Bool) → (let t : Transition = if b then ([], begin_death o now) else ([], now) in HasOrder t.1)
-    go true = push_orderly (Dying (record { object = o; phase = Finalizer })) (change dead o v.objects) v.names (Releasing references ∷ below) refl (λ k. k)
-        (λ s k. absurd k) (λ d e. subst (λ (x : Death). Includes (serials (change dead o v.objects)) x.object) (death_is d e) lives) (λ c s e. cc) moved
-      where
-        death_is : (d : Death) → Dying (record { object = o; phase = Finalizer }) ≡ Dying d → record { object = o; phase = Finalizer } ≡ d
-        death_is d e = cc
-    go false = rest
+    death_is : (d : Death) → Dying (record { object = o; phase = Finalizer }) ≡ Dying d → record { object = o; phase = Finalizer } ≡ d
+    death_is d e = cc
 
 -- what the entries of an object hold lives
 pub found_entries_live : (objects : List Object) (names : List (Option Val)) (stack : List Activity) (o f : ℕ) → Orderly objects names stack
@@ -122,9 +108,8 @@ found_entries_live objects names stack o f h = go (object_at objects o) refl
 
 -- removing the last entry adds no callback
 pub callback_shorter : (entries : List Entry) → callback_in entries ≡ None → callback_in (without_last entries) ≡ None
-callback_shorter [] n = refl
-callback_shorter (e ∷ []) n = refl
 callback_shorter (e ∷ d ∷ entries) n = let short : length (e ∷ d ∷ entries) - 1 ≡ suc (length entries) = omega arith in ap (λ k. callback_in (take k (e ∷ d ∷ entries))) short ∙ n
+callback_shorter xs n = refl
 
 pub found_callback : (objects : List Object) (o : ℕ) (x : Object) → object_at objects o ≡ Some x → callback_in x.entries ≡ None → callback_in (entries_of objects o) ≡ None
 found_callback objects o x at n = ap (λ m. callback_in (unwrap_or (option_map (λ (q : Object). q.entries) m) [])) at ∙ n
@@ -143,7 +128,7 @@ module _ (script : Script) (o : ℕ) (below : List Activity) (v : World) (rises 
   goes_to : (phase next : DyingPhase) (objects : List Object) → ((s : ℕ) → Includes (dying_holds o next) s → Includes (serials objects) s)
       → ((weak : ℕ) → Includes (death_waits next) weak → Includes (death_waits phase) weak)
       → ((weak : ℕ) → occurrences weak (death_waits next) ≤ occurrences weak (death_waits phase)) → Orderly objects v.names (dying_now phase ∷ below) → Orderly objects v.names (dying_now next ∷ below)
-  goes_to phase next objects held fewer count h = turns_fewer (dying_now phase) (dying_now next) objects v.names below h held
+  goes_to phase next objects held fewer count h = turns_fewer (dying_now phase) (dying_now next) h held
       (λ d e. subst (λ (x : Death). Includes (serials objects) x.object) (death_is next d e) (h.deaths_live (record { object = o; phase = phase }) (inl refl)))
       fewer count (λ c s e. cc) (λ x m e k. inr k)
 
@@ -159,7 +144,7 @@ module _ (script : Script) (o : ℕ) (below : List Activity) (v : World) (rises 
   finalizer_orderly : (m : Option ℕ) → HasOrder (at Finalizer) → HasOrder (run_finalizer script o below (at Finalizer) m).1
   finalizer_orderly None h = goes_to Finalizer (Clearing []) v.objects (λ s k. absurd k) (λ weak k. k) (λ weak. omega arith) h
   finalizer_orderly (Some p) h =
-      let moved = one_orderly revived o v.objects v.names (at Finalizer).stack (λ x. record { serial = refl; code = refl; class = refl; referent = inl refl }) (λ x. refl) (λ x e. false_true e) h in
+      let moved = one_orderly revived o (λ x. still_later) (λ x. refl) (λ x e. false_true e) h in
       starts_orderly script (record { sort = Del; proc = p; subject = o; func = None }) (death_at o AfterFinalizer below (with_change revived o (at Finalizer))) (λ k. k) (λ s k. absurd k)
       (goes_to Finalizer AfterFinalizer (change revived o v.objects) (its_own (change revived o v.objects) (own_lives Finalizer (change revived o v.objects)
       moved)) (λ weak k. k) (λ weak. omega arith) moved)
@@ -168,13 +153,11 @@ module _ (script : Script) (o : ℕ) (below : List Activity) (v : World) (rises 
       revived x = marked (with_place (Gen 0) x)
 
   after_frame_orderly : (phase next : DyingPhase) → death_waits next ≡ [] → ((s : ℕ) → ¬ Includes (dying_holds o next) s) → HasOrder (at phase) → HasOrder (after_frame o next below (at phase)).1
-  after_frame_orderly phase next none free h = go (in_degree (at next) o == 0)
-    where
-      go : (b : Bool) → (let t : Transition = if b then ([], with_change (with_place Untracked) o (at next)) else (Alive o ∷ [], with_stack below (at phase)) in HasOrder t.1)
-      go true = one_orderly (with_place Untracked) o v.objects v.names (at next).stack (λ x. record { serial = refl; code = refl; class = refl; referent = inl refl }) (λ x. refl) (λ x e. false_true e)
-          (goes_to phase next v.objects (λ s k. absurd (free s k)) (λ weak k. absurd (subst (λ ws. Includes ws weak) none k))
-          (λ weak. let zero : occurrences weak (death_waits next) ≡ 0 = ap (occurrences weak) none in omega (arith, zero)) h)
-      go false = pop_orderly (dying_now phase) v.objects v.names below (λ k. k) h
+  after_frame_orderly phase next none free h = own_frame_either (λ lines. HasOrder) o next below (at phase)
+      (λ t. one_orderly (with_place Untracked) o (λ x. still_later) (λ x. refl) (λ x e. false_true e)
+      (goes_to phase next v.objects (λ s k. absurd (free s k)) (λ weak k. absurd (subst (λ ws. Includes ws weak) none k))
+      (λ weak. let zero : occurrences weak (death_waits next) ≡ 0 = ap (occurrences weak) none in omega (arith, zero)) h))
+      (λ t. pop_orderly (dying_now phase) (λ k. k) h)
 
   clearing_orderly : (waiting weaks : List ℕ) → weak_references_if has_weak_references v.objects o ≡ weaks → HasOrder (at (Clearing waiting))
       → HasOrder (clear_one o waiting below (at (Clearing waiting)) weaks).1
@@ -191,7 +174,7 @@ module _ (script : Script) (o : ℕ) (below : List Activity) (v : World) (rises 
       objects = loses_referent weak v.objects
 
       lost : Orderly objects v.names (at (Clearing waiting)).stack
-      lost = lost_orderly weak v.objects v.names (at (Clearing waiting)).stack h
+      lost = lost_orderly weak h
 
       refers : (m : Option ℕ) → is_some m ≡ true → (r : ℕ) × (m ≡ Some r)
       refers None k = absurd (let no : false ≡ true = k in cc)
@@ -227,7 +210,7 @@ module _ (script : Script) (o : ℕ) (below : List Activity) (v : World) (rises 
           one x m false t i = absurd (let no : true ≡ false = sym (eq-eqb x.serial weak i) ∙ t in cc)
 
       go : (b : Bool) → is_some (callback_of v.objects weak) ≡ b → Orderly objects v.names (dying_now (Clearing (waiting ++ (if b then weak ∷ [] else []))) ∷ below)
-      go true calls = turns_more (dying_now (Clearing waiting)) (dying_now (Clearing (waiting ++ weak ∷ []))) weak objects v.names below lost
+      go true calls = turns_more (dying_now (Clearing waiting)) (dying_now (Clearing (waiting ++ weak ∷ []))) weak lost
           (λ s m. either (Includes-append_cases waiting (weak ∷ []) s m) (own_held (Clearing waiting) objects lost s)
           (λ k. either k (λ i. lives_after v.objects objects (lost_alters weak v.objects) s (subst (Includes (serials v.objects)) (y.2 ∙ i)
           (Includes-map (λ (z : Object). z.serial) v.objects y.0 y.1))) (λ n. absurd n)))
@@ -245,7 +228,7 @@ module _ (script : Script) (o : ℕ) (below : List Activity) (v : World) (rises 
   calling_orderly (weak ∷ waiting) h =
       starts_orderly script (record { sort = Callback; proc = procedure_of (at (Calling (weak ∷ waiting))) callback; subject = weak; func = Some callback })
       (death_at o next below (with_change (with_entries []) weak (at (Calling (weak ∷ waiting))))) (λ k. k) (λ s k. absurd k)
-      (entries_orderly weak [] v.objects v.names (dying_now next ∷ below) done (λ f k. absurd k) (λ x m i c f k. absurd k) (λ x m i c n. refl) turned)
+      (entries_orderly weak [] done (λ f k. absurd k) (λ x m i c f k. absurd k) (λ x m i c n. refl) turned)
     where
       callback : ℕ
       callback = unwrap_or (callback_of v.objects weak) 0
@@ -286,41 +269,17 @@ module _ (script : Script) (o : ℕ) (below : List Activity) (v : World) (rises 
             occurrences-append weak waiting (all_waits below),
           ))
 
-  after_call_orderly : (weak callback : ℕ) (waiting : List ℕ) → HasOrder (at (AfterCall weak callback waiting)) → HasOrder (push (Releasing (callback ∷ weak ∷ [])) (at (Calling waiting)))
-  after_call_orderly weak callback waiting h =
-      gives_up_orderly (callback ∷ weak ∷ []) (at (Calling waiting)) (λ k. k) (λ s m. own_held (AfterCall weak callback waiting) v.objects h s
-      (either m (λ e. inl e) (λ k. either k (λ e. inr (inl e)) (λ n. absurd n))))
-      (goes_to (AfterCall weak callback waiting) (Calling waiting) v.objects (λ s m. own_held (AfterCall weak callback waiting) v.objects h s (inr (inr m))) (λ s k. k) (λ s. omega arith) h)
-
-  legacy_orderly : (m : Option ℕ) → HasOrder (at LegacyFinalizer) → HasOrder (run_legacy script o below (at LegacyFinalizer) m).1
-  legacy_orderly None h = goes_to LegacyFinalizer Detaching v.objects (λ s k. absurd k) (λ weak k. k) (λ weak. omega arith) h
-  legacy_orderly (Some p) h =
-      let moved = one_orderly (with_place (Gen 0)) o v.objects v.names (at LegacyFinalizer).stack (λ x. record {
-        serial = refl;
-        code = refl;
-        class = refl;
-        referent = inl refl;
-      }) (λ x. refl) (λ x e. false_true e) h in
-      starts_orderly script (record { sort = Legacy; proc = p; subject = o; func = None })
-      (death_at o AfterLegacy below (with_change (with_place (Gen 0)) o (at LegacyFinalizer))) (λ k. k) (λ s k. absurd k)
-      (goes_to LegacyFinalizer AfterLegacy (change (with_place (Gen 0)) o v.objects) (its_own (change (with_place (Gen 0)) o v.objects)
-      (own_lives LegacyFinalizer (change (with_place (Gen 0)) o v.objects) moved)) (λ weak k. k) (λ weak. omega arith) moved)
-
-  detaching_orderly : (weaks : List ℕ) → HasOrder (at Detaching) → HasOrder (detach_one o below (at Detaching) weaks).1
-  detaching_orderly [] h = goes_to Detaching Emptying v.objects (λ s k. absurd k) (λ weak k. k) (λ weak. omega arith) h
-  detaching_orderly (weak ∷ weaks) h = lost_orderly weak v.objects v.names (at Detaching).stack h
-
   emptying_orderly : (m : Option Entry) → last_entry (entries_of v.objects o) ≡ m → Calm script (at Emptying) → HasOrder (at Emptying) → HasOrder (empty_one o below (at Emptying) m).1
   emptying_orderly None e c h =
       without_orderly o v.objects v.names below c.stack.0.unheld.names c.stack.0.unheld.root (λ x m. (c.stack.0.unheld.quiet x m).entries)
       (popped_free (dying_now Emptying) below o c.stack.0.unheld.stack)
-      (λ d m. not_dying o below d c.over.0 m) (pop_orderly (dying_now Emptying) v.objects v.names below (λ k. k) h)
+      (λ d m. not_dying o below d c.over.0 m) (pop_orderly (dying_now Emptying) (λ k. k) h)
   emptying_orderly (Some entry) e c h =
       gives_up_orderly (entry_references entry) (death_at o Emptying below (with_change (with_entries shorter) o (at Emptying))) (λ k. k)
       (λ s m. lives_after v.objects (change (with_entries shorter) o v.objects) (entries_alter shorter o v.objects) s
       (own_entries_live s (references_of_member (entries_of v.objects o) entry s (slice_get_member (entries_of v.objects o)
       (length (entries_of v.objects o) - 1) entry e) m)))
-      (entries_orderly o shorter v.objects v.names (at Emptying).stack (λ k. c.stack.0.unheld.stack (waits_held (at Emptying).stack o k)) (λ f k. own_entries_live f (taken f k))
+      (entries_orderly o shorter (λ k. c.stack.0.unheld.stack (waits_held (at Emptying).stack o k)) (λ f k. own_entries_live f (taken f k))
       (λ x m i w f k. subst (λ es. Includes (references es) f) (ap (λ z. unwrap_or (option_map (λ (q : Object). q.entries) z) [])
       (subst (λ s. object_at v.objects s ≡ Some x) i (at_member 1 v.next_serial v.objects x rises m))) (taken f k)) (λ x m i w n. callback_shorter
       (entries_of v.objects o) (found_callback v.objects o x (subst (λ s. object_at v.objects s ≡ Some x) i (at_member 1 v.next_serial v.objects x rises m))
@@ -340,8 +299,19 @@ module _ (script : Script) (o : ℕ) (below : List Activity) (v : World) (rises 
   dying_orderly AfterFinalizer c h = after_frame_orderly AfterFinalizer (Clearing []) refl (λ s k. k) h
   dying_orderly (Clearing waiting) c h = clearing_orderly waiting (weak_references_if has_weak_references v.objects o) refl h
   dying_orderly (Calling waiting) c h = calling_orderly waiting h
-  dying_orderly (AfterCall weak callback waiting) c h = after_call_orderly weak callback waiting h
-  dying_orderly LegacyFinalizer c h = legacy_orderly (option_and_then (legacy_of script) (object_at v.objects o)) h
+  dying_orderly (AfterCall weak callback waiting) c h =
+      gives_up_orderly (callback ∷ weak ∷ []) (at (Calling waiting)) (λ k. k) (λ s m. own_held (AfterCall weak callback waiting) v.objects h s
+      (either m (λ e. inl e) (λ k. either k (λ e. inr (inl e)) (λ n. absurd n))))
+      (goes_to (AfterCall weak callback waiting) (Calling waiting) v.objects (λ s m. own_held (AfterCall weak callback waiting) v.objects h s (inr (inr m))) (λ s k. k) (λ s. omega arith) h)
+  dying_orderly LegacyFinalizer c h = option_either (λ lines. HasOrder) (run_legacy script o below (at LegacyFinalizer)) (option_and_then (legacy_of script) (object_at v.objects o))
+      (λ is. goes_to LegacyFinalizer Detaching v.objects (λ s k. absurd k) (λ weak k. k) (λ weak. omega arith) h)
+      (λ p is. let moved = one_orderly (with_place (Gen 0)) o (λ x. still_later) (λ x. refl) (λ x e. false_true e) h in
+      starts_orderly script (record { sort = Legacy; proc = p; subject = o; func = None })
+      (death_at o AfterLegacy below (with_change (with_place (Gen 0)) o (at LegacyFinalizer))) (λ k. k) (λ s k. absurd k)
+      (goes_to LegacyFinalizer AfterLegacy (change (with_place (Gen 0)) o v.objects) (its_own (change (with_place (Gen 0)) o v.objects)
+      (own_lives LegacyFinalizer (change (with_place (Gen 0)) o v.objects) moved)) (λ weak k. k) (λ weak. omega arith) moved))
   dying_orderly AfterLegacy c h = after_frame_orderly AfterLegacy Detaching refl (λ s k. k) h
-  dying_orderly Detaching c h = detaching_orderly (weak_references_if (has_finalizers script) v.objects o) h
+  dying_orderly Detaching c h = list_either (λ lines. HasOrder) (detach_one o below (at Detaching)) (weak_references_if (has_finalizers script) v.objects o)
+      (λ e. goes_to Detaching Emptying v.objects (λ s k. absurd k) (λ weak k. k) (λ weak. omega arith) h)
+      (λ weak weaks e. lost_orderly weak h)
   dying_orderly Emptying c h = emptying_orderly (last_entry (entries_of v.objects o)) refl c h

@@ -11,8 +11,8 @@ use Rattle.cg_graph.specs.Holdings.{name_holdings, occurrences, graph_of, entry_
 use Rattle.cg_graph.proofs.Members.{either, Includes-of, includes-of, Includes-append_left, Includes-append_right, Includes-append_cases, Includes-map, Includes-map_cases}
 use Rattle.cg_machine.specs.declared.event.Event.{Event}
 use Rattle.cg_machine.specs.declared.event.FrameSort.{FrameSort}
-use Rattle.cg_machine.specs.declared.event.FrameSort.TheVariants.{Del, Legacy, Callback, Call as CallFrame}
-use Rattle.cg_machine.specs.World.{World, Activity, TopLevel, Framed, Collecting, Frame, Collection, Start, Turn, DyingPhase, Finalizer, AfterFinalizer, Clearing, Calling, AfterCall, LegacyFinalizer, AfterLegacy, Detaching, Emptying, opening, garbage_list, push, with_stack, ShuttingDown}
+use Rattle.cg_machine.specs.declared.event.FrameSort.TheVariants.{Del, Call as CallFrame}
+use Rattle.cg_machine.specs.World.{World, Activity, TopLevel, Framed, Collecting, Frame, Collection, Start, Turn, DyingPhase, Finalizer, AfterFinalizer, Clearing, Calling, AfterCall, AfterLegacy, Detaching, opening, garbage_list, push, with_stack, ShuttingDown}
 use Rattle.cg_machine.specs.Holdings.{holds, collect_holds, holdings}
 use Rattle.cg_machine.specs.Frame.{procedure_of}
 use Rattle.cg_machine.specs.Weak.{callback_in, is_function}
@@ -52,7 +52,7 @@ gone_forgotten w h referred o gone = record {
     not_own : (x : Object) → Includes w.objects x → x.serial ≢ o
     not_own x m e = gone (subst (Includes (serials w.objects)) e (Includes-map (λ (z : Object). z.serial) w.objects x m))
 
-lives_or_not : (objects : List Object) (o : ℕ) → Includes (serials objects) o ⊎ (¬ Includes (serials objects) o)
+pub lives_or_not : (objects : List Object) (o : ℕ) → Includes (serials objects) o ⊎ (¬ Includes (serials objects) o)
 lives_or_not objects o = go (includes (serials objects) o) refl
   where
     go : (b : Bool) → includes (serials objects) o ≡ b → Includes (serials objects) o ⊎ (¬ Includes (serials objects) o)
@@ -164,7 +164,7 @@ no_waits a h = absurd h
 
 pub turned_orderly : (a b : Activity) (below : List Activity) (v : World) → HasCommands a → HasCommands b
     → ((o : ℕ) → Includes (holds b) o → Includes (holds a) o) → HasOrder (with_stack (a ∷ below) v) → HasOrder (with_stack (b ∷ below) v)
-turned_orderly a b below v ha hb fewer h = turns_fewer a b v.objects v.names below h
+turned_orderly a b below v ha hb fewer h = turns_fewer a b h
     (λ o m. h.stack_lives o (Includes-append_left (holds a) (flat_map holds below) o (fewer o m))) (λ d e. absurd (no_death b hb d e))
     (λ weak m. absurd (subst (λ ws. Includes ws weak) (no_waits b hb) m)) (λ weak. let none : occurrences weak (waits_of b) ≡ 0 = ap (occurrences weak)
     (no_waits b hb) in omega (arith, none)) (λ c o e. absurd (no_collection b hb c e)) (λ x m e k. either k (λ n. absurd (no_clearing a below ha n))
@@ -178,7 +178,7 @@ turned_orderly a b below v ha hb fewer h = turns_fewer a b v.objects v.names bel
 
 collects_orderly : (a : Activity) (g : ℕ) (asked : Bool) (below : List Activity) (v : World) → HasCommands a → HasOrder (with_stack (a ∷ below) v)
     → HasOrder (push (new_collection g asked (with_stack (a ∷ below) v)) (with_stack (a ∷ below) v))
-collects_orderly a g asked below v ha h = push_orderly (new_collection g asked (with_stack (a ∷ below) v)) v.objects v.names (a ∷ below) refl
+collects_orderly a g asked below v ha h = push_orderly (new_collection g asked (with_stack (a ∷ below) v)) refl
     (no_clearing a below ha) (λ o k. absurd k) (λ d e. cc) (λ c o e k. starts c o e k) h
   where
     starts : (c : Collection) (o : ℕ) → new_collection g asked (with_stack (a ∷ below) v) ≡ Collecting c → c.phase ≢ Turn o
@@ -277,15 +277,9 @@ death_in script w o (AfterCall weak callback waiting) lives h = record {
   untracked = λ t x m. (h.1.unheld.quiet x m).untracked;
   unreferred = λ t. h.1.unreferred;
 }
-death_in script w o LegacyFinalizer lives h = record {
-  lives = lives;
-  refers_to_none = λ x m. (h.unheld.quiet x m).refers_to_none;
-  untracked = λ t x m. (h.unheld.quiet x m).untracked;
-  unreferred = λ t. h.unreferred;
-}
 death_in script w o AfterLegacy lives h = record { lives = lives; refers_to_none = h.0.refers_to_none; untracked = λ t. cc; unreferred = λ t. cc }
 death_in script w o Detaching lives h = record { lives = lives; refers_to_none = λ x m. (h.0.quiet x m).refers_to_none; untracked = λ t x m. (h.0.quiet x m).untracked; unreferred = λ t. cc }
-death_in script w o Emptying lives h = record {
+death_in script w o phase lives h = record {
   lives = lives;
   refers_to_none = λ x m. (h.unheld.quiet x m).refers_to_none;
   untracked = λ t x m. (h.unheld.quiet x m).untracked;
@@ -309,10 +303,8 @@ held_live w h o m = either (Includes-append_cases (names ++ (1 ∷ []) ++ entrie
 
 -- the locals of frames are held, and deaths are of different objects
 local_held : (sort : FrameSort) (o : ℕ) (below : List Activity) → IsLocalHeld sort o below → sort ≢ CallFrame → Includes (flat_map holds below) o
-local_held Del o below h other = h
-local_held Legacy o below h other = h
-local_held Callback o below h other = h
 local_held CallFrame o below h other = absurd (other refl)
+local_held sort o below h other = h
 
 locals_held : (stack : List Activity) → AreOver stack → (f : Frame) → Includes stack (Framed f) → f.sort ≢ CallFrame → Includes (flat_map holds stack) f.subject
 locals_held [] h f m other = absurd m

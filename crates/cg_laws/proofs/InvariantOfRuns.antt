@@ -1,19 +1,18 @@
 -- The invariant of runs, and what each step does to it and to the measure.
 use Rattle.std.proofs.Common.{◌≡◌, refl, ap, ℕ, zero, suc, ◌+◌, ◌-◌, ◌*◌, ◌<◌, ◌≤◌, Bool, true, false, List, [], ◌∷◌, ◌++◌, length, arith}
-use Rattle.std.specs.Prelude.{◌==◌, if◌then◌else◌, slice_get, unwrap_or, option_map}
+use Rattle.std.specs.Prelude.{slice_get, unwrap_or, option_map}
 use Rattle.std.specs.List.{list_any}
-use Rattle.std.proofs.lemmas.Bool.{eqb-false}
 use Rattle.cg_script.specs.declared.Script.{Script}
 use Rattle.cg_script.specs.declared.Proc.{Proc}
 use Rattle.cg_graph.specs.Object.{Object}
 use Rattle.cg_machine.specs.declared.event.FrameSpec.{FrameSpec}
 use Rattle.cg_machine.specs.Program.{body_of, procedures}
-use Rattle.cg_machine.specs.World.{World, Activity, TopLevel, Framed, Releasing, Dying, Collecting, ShuttingDown, Running, BudgetIsSpent, opening}
-use Rattle.cg_machine.specs.declared.event.Event.TheVariants.{Enter, BudgetSpent}
-use Rattle.cg_machine.specs.Frame.{Transition, start_frame}
+use Rattle.cg_machine.specs.World.{World, Activity, TopLevel, Releasing, Dying, Collecting, ShuttingDown, Running, BudgetIsSpent, opening}
+use Rattle.cg_machine.specs.Frame.{start_frame}
 use Rattle.cg_laws.proofs.Sums.{tally}
 use Rattle.cg_represents.proofs.Serials.{Rises}
 use Rattle.cg_laws.proofs.Measure.{alive, commands_in, all_bodies, commands_left, is_starting, due_rank, rank_in, left_in, summary, Lower, by_commands, size_of, entries_in, referents_in, weight_in, bound_names}
+use Rattle.cg_laws.proofs.Starting.{starts_either}
 
 -- the commands outside procedures, or the shutdown, are at the bottom and nowhere else
 abbrev pub HasBottom : List Activity → Type 0
@@ -42,9 +41,8 @@ pub record Moves (script : Script) (w after : World) : Type 0 where
 
 -- The start of a frame costs more than its commands.
 body_below : (procs : List Proc) (p : ℕ) → length (unwrap_or (option_map (λ x. x.body) (slice_get procs p)) []) ≤ tally (λ x. length x.body) procs
-body_below [] p = omega arith
-body_below (x ∷ procs) zero = omega arith
 body_below (x ∷ procs) (suc p) = omega (arith, body_below procs p)
+body_below xs p = omega arith
 
 pays : (budget bodies body : ℕ) → body ≤ bodies → (budget ≡ 0 → ⊥) → (budget - 1) * suc bodies + body < budget * suc bodies
 pays zero bodies body h k = absurd (k refl)
@@ -60,37 +58,19 @@ pub record NoMore (script : Script) (w u : World) : Type 0 where
 
 -- A frame starts in u, which the step from w leads to.
 pub starts : (script : Script) (spec : FrameSpec) (w u : World) → Sound u → u.outcome ≡ Running → NoMore script w u → Moves script w (start_frame script spec u).1
-starts script spec w u sound running less = go (u.budget == 0) refl
-  where
-    lives : alive u.outcome ≡ 1
-    lives = ap alive running
-
-    go : (b : Bool) → (u.budget == 0) ≡ b
-        → (let t : Transition = if b then (BudgetSpent ∷ [], record u { outcome = BudgetIsSpent }) else (
-          Enter spec.sort spec.subject ∷ [],
-          record u {
-            budget = u.budget - 1;
-            stack = Framed (record {
-              sort = spec.sort;
-              subject = spec.subject;
-              function = spec.func;
-              commands = body_of script
-                  spec.proc;
-            }) ∷ u.stack;
-          },
-        ) in Moves script w t.1)
-    go true e =
-        let fewer : commands_left script (record u { outcome = BudgetIsSpent }) < commands_left script w = omega (arith, lives, less.commands) in record {
-          sound = record { rises = sound.rises; bottom = sound.bottom; single = sound.single };
-          lower = by_commands fewer (omega (arith, fewer, less.size)) (omega (arith, less.entries)) (omega (arith, less.referents)) (omega (arith, less.weight));
-        }
-    go false e =
-        let paid = pays u.budget (all_bodies script) (length (body_of script spec.proc)) (body_below (procedures script.items) spec.proc) (eqb-false u.budget 0 e) in
-        let fewer : alive u.outcome + 2 * ((u.budget - 1) * suc (all_bodies script)) + (2 * length (body_of script spec.proc) + tally commands_in u.stack) +
-        bound_names u.names < commands_left script w = omega (arith, less.commands, paid) in record {
-          sound = record { rises = sound.rises; bottom = sound.bottom; single = omega (arith, sound.single) };
-          lower = by_commands fewer (omega (arith, fewer, less.size)) (omega (arith, less.entries)) (omega (arith, less.referents)) (omega (arith, less.weight));
-        }
+starts script spec w u sound running less = starts_either (λ lines. Moves script w) script spec u
+    (let lives : alive u.outcome ≡ 1 = ap alive running in
+    let fewer : commands_left script (record u { outcome = BudgetIsSpent }) < commands_left script w = omega (arith, lives, less.commands) in record {
+      sound = record { rises = sound.rises; bottom = sound.bottom; single = sound.single };
+      lower = by_commands fewer (omega (arith, fewer, less.size)) (omega (arith, less.entries)) (omega (arith, less.referents)) (omega (arith, less.weight));
+    })
+    (λ some.
+    let paid = pays u.budget (all_bodies script) (length (body_of script spec.proc)) (body_below (procedures script.items) spec.proc) some in
+    let fewer : alive u.outcome + 2 * ((u.budget - 1) * suc (all_bodies script)) + (2 * length (body_of script spec.proc) + tally commands_in u.stack) +
+    bound_names u.names < commands_left script w = omega (arith, less.commands, paid) in record {
+      sound = record { rises = sound.rises; bottom = sound.bottom; single = omega (arith, sound.single) };
+      lower = by_commands fewer (omega (arith, fewer, less.size)) (omega (arith, less.entries)) (omega (arith, less.referents)) (omega (arith, less.weight));
+    })
 
 -- Releases and deaths, which a step may put on top.
 abbrev pub IsPlain : List Activity → Type 0
@@ -132,6 +112,5 @@ plain_counts (_ ∷ tops) below h = absurd h
 
 pub due_less : (b c s : Bool) → (b ≡ true → c ≡ true) → due_rank b s ≤ due_rank c s
 due_less b c true h = omega arith
-due_less false c false h = omega arith
-due_less true true false h = omega arith
 due_less true false false h = absurd (let no : false ≡ true = h refl in cc)
+due_less b c s h = omega arith

@@ -1,5 +1,5 @@
 -- What a step leaves below it: the activities, and the entries of objects that are dying or waiting there.
-use Rattle.std.proofs.Common.{◌≡◌, ◌≢◌, refl, sym, ◌∙◌, subst, ℕ, Bool, true, false, not, inl, inr, ◌⊎◌, List, [], ◌∷◌, ◌++◌, map}
+use Rattle.std.proofs.Common.{◌≡◌, ◌≢◌, refl, sym, ◌∙◌, subst, ℕ, Bool, true, not, inl, inr, ◌⊎◌, List, [], ◌∷◌, ◌++◌, map}
 use Rattle.std.specs.Prelude.{◌==◌, if◌then◌else◌, flat_map}
 use Rattle.std.proofs.lemmas.Bool.{eqb-true}
 use Rattle.cg_value.specs.declared.Entry.{Entry}
@@ -13,8 +13,9 @@ use Rattle.cg_machine.specs.World.{World, Activity, Dying, Collecting, Death}
 use Rattle.cg_machine.specs.Holdings.{holds}
 use Rattle.cg_machine.specs.Collect.{saved}
 use Rattle.cg_represents.specs.Orderly.{waits_of, all_waits}
+use Rattle.cg_represents.proofs.Lists.{each_changed}
 use Rattle.cg_laws.specs.Laws.{IsOfCollection}
-use Rattle.cg_laws.proofs.Unreferred.{Forgotten, IsLater, later_refl, later_trans}
+use Rattle.cg_laws.proofs.Unreferred.{Forgotten, IsLater, later_refl, later_trans, still_later}
 use Rattle.cg_laws.proofs.HeldLives.{Orderly}
 
 -- an object whose entries a step may change: not one that is dying below and forgotten, and not one that waits below
@@ -57,28 +58,19 @@ pub from_if : (w : World) (below : List Activity) (f : Object → Object) (test 
     → ((x : Object) → test x ≡ true → ((f x).entries ≡ x.entries) ⊎ MayChange w below x.serial)
     → ((x : Object) → IsOfCollection (f x).place → (x.place ≡ (f x).place) ⊎ IsCollectionOnTop w.stack) → (objects : List Object) → AreFrom w below objects
     (map (λ x. if test x then f x else x) objects)
-from_if w below f test later entries places objects y m =
-    let x = Includes-map_cases (λ x. if test x then f x else x) objects y m in
-    subst (ComesFrom w below objects) x.2 (one (test x.0) x.0 refl x.1)
-  where
-    one : (b : Bool) (x : Object) → test x ≡ b → Includes objects x → ComesFrom w below objects (if b then f x else x)
-    one true x e k = record { was = x; member = k; later = later x; entries = entries x e; place = places x }
-    one false x e k = record { was = x; member = k; later = later_refl x; entries = inl refl; place = λ c. inl refl }
+from_if w below f test later entries places objects = each_changed (ComesFrom w below objects) f test objects
+    (λ x k e. record { was = x; member = k; later = later x; entries = entries x e; place = places x })
+    (λ x k e. record { was = x; member = k; later = later_refl x; entries = inl refl; place = λ c. inl refl })
 
 pub from_entries : (w : World) (below : List Activity) (es : List Entry) (s : ℕ) → MayChange w below s → (objects : List Object) → AreFrom w below objects (change (with_entries es) s objects)
-from_entries w below es s t objects = from_if w below (with_entries es) (λ x. x.serial == s) (λ x. record {
-  serial = refl;
-  code = refl;
-  class = refl;
-  referent = inl refl;
-}) (λ x e. inr (subst (MayChange w below) (sym (eqb-true x.serial s e)) t)) (λ x c. inl refl) objects
+from_entries w below es s t objects = from_if w below (with_entries es) (λ x. x.serial == s) (λ x. still_later) (λ x e. inr (subst (MayChange w below) (sym (eqb-true x.serial s e)) t)) (λ x c. inl refl) objects
 
 pub from_without : (w : World) (below : List Activity) (o : ℕ) (objects : List Object) → AreFrom w below objects (without o objects)
 from_without w below o objects y m = from_refl w below objects y (Includes-filter_cases (λ x. not (x.serial == o)) objects y m).0
 
 pub from_saved : (w : World) (below : List Activity) (s : ℕ) → MayChange w below 1 → (objects : List Object) → AreFrom w below objects (saved s objects)
 from_saved w below s t objects = from_if w below (λ x. with_entries (x.entries ++ item (Ref s) ∷ []) x) (λ x. x.serial == 1)
-    (λ x. record { serial = refl; code = refl; class = refl; referent = inl refl }) (λ x e. inr (subst (MayChange w below) (sym (eqb-true x.serial 1 e)) t))
+    (λ x. still_later) (λ x e. inr (subst (MayChange w below) (sym (eqb-true x.serial 1 e)) t))
     (λ x c. inl refl) objects
 
 -- What a step leaves below it. It makes at most one object.

@@ -7,7 +7,7 @@ use Rattle.cg_graph.specs.Object.{Object, serials}
 use Rattle.cg_graph.proofs.Members.{either, Includes-append_right}
 use Rattle.cg_machine.specs.declared.event.Event.{Event}
 use Rattle.cg_machine.specs.declared.event.FrameSort.TheVariants.{Call as CallFrame}
-use Rattle.cg_machine.specs.World.{World, Activity, TopLevel, Framed, Releasing, Dying, Collecting, DyingPhase, Finalizer, AfterFinalizer, Clearing, Calling, AfterCall, LegacyFinalizer, AfterLegacy, Detaching, Emptying, Ended, opening, push, with_stack, ShuttingDown}
+use Rattle.cg_machine.specs.World.{World, Activity, TopLevel, Framed, Releasing, Dying, Collecting, DyingPhase, AfterFinalizer, Calling, AfterCall, AfterLegacy, Emptying, Ended, opening, push, with_stack, ShuttingDown}
 use Rattle.cg_machine.specs.Holdings.{holds, is_collection}
 use Rattle.cg_machine.specs.Frame.{procedure_of}
 use Rattle.cg_machine.specs.Effects.{Changes}
@@ -115,15 +115,12 @@ step_leaves script w events after step sound c h = any_step script (λ u. (Sound
 
 -- what that says of objects that are dying or waiting below
 cleared_forgotten : (script : Script) (w : World) (o : ℕ) (phase : DyingPhase) → Rests script w o phase → is_cleared phase ≡ true → Forgotten w o
-cleared_forgotten script w o Finalizer h e = absurd h
 cleared_forgotten script w o AfterFinalizer h e = absurd (let no : false ≡ true = e in cc)
-cleared_forgotten script w o (Clearing waiting) h e = absurd h
 cleared_forgotten script w o (Calling waiting) h e = h.1
 cleared_forgotten script w o (AfterCall weak callback waiting) h e = h.1
-cleared_forgotten script w o LegacyFinalizer h e = absurd h
 cleared_forgotten script w o AfterLegacy h e = absurd (let no : false ≡ true = e in cc)
-cleared_forgotten script w o Detaching h e = absurd h
 cleared_forgotten script w o Emptying h e = h.1
+cleared_forgotten script w o phase h e = absurd h
 
 module _ (script : Script) (w : World) (a : Activity) (below : List Activity) (after : World) (top : w.stack ≡ a ∷ below)
     (rises : Rises 1 w.next_serial w.objects) (resting : AreResting script w below) (h : HasOrder w) (l : LeavesIt w below after) where

@@ -1,11 +1,10 @@
 -- The lines of a step name live objects, and a cleared weak reference has no referent afterwards.
 use Rattle.std.proofs.Common.{◌≡◌, refl, sym, ◌∙◌, ap, subst, ℕ, ◌<◌, Bool, true, false, not, inl, inr, ◌⊎◌, List, [], ◌∷◌, Option, Some, None}
-use Rattle.std.specs.Prelude.{◌==◌, if◌then◌else◌, filter, option_and_then, option_map, reverse, unwrap_or}
+use Rattle.std.specs.Prelude.{◌==◌, if◌then◌else◌, filter, option_and_then, option_map, unwrap_or}
 use Rattle.std.proofs.lemmas.Bool.{eqb-true, eq-eqb}
-use Rattle.std.proofs.lemmas.List.{reverse-append}
 use Rattle.cg_graph.specs.Member.{Includes}
 use Rattle.cg_graph.specs.Object.{Object, change, object_at, serials, with_referent, without}
-use Rattle.cg_graph.proofs.Members.{either, Includes-append_cases, Includes-filter, Includes-filter_cases, Includes-map, Includes-map_cases}
+use Rattle.cg_graph.proofs.Members.{Includes-filter, Includes-filter_cases, Includes-map, Includes-map_cases}
 use Rattle.cg_machine.specs.Collect.{SameMembers}
 use Rattle.cg_machine.specs.Weak.{AllLose, is_reference_to, loses_referent, weak_references, weak_references_if}
 use Rattle.cg_represents.proofs.Lists.{present, Includes-of_count, found_at}
@@ -15,6 +14,7 @@ use Rattle.cg_machine.specs.Dying.{finalizer_to_run}
 use Rattle.cg_machine.specs.Program.{finalizer_of}
 use Rattle.cg_script.specs.declared.Script.{Script}
 use Rattle.cg_laws.proofs.Pointwise.{Came, came_lives}
+use Rattle.cg_laws.proofs.MeasureInDeaths.{Includes-reverse}
 
 -- no object of this serial refers to anything
 abbrev pub HasNoReferent : ℕ → List Object → Type 0
@@ -48,16 +48,11 @@ filter_lives test objects n m =
     let x = Includes-map_cases (λ (z : Object). z.serial) (filter test objects) n m in
     subst (Includes (serials objects)) x.2 (Includes-map (λ (z : Object). z.serial) objects x.0 (Includes-filter_cases test objects x.0 x.1).0)
 
-pub reversed_back : (xs : List ℕ) (n : ℕ) → Includes (reverse xs) n → Includes xs n
-reversed_back [] n m = m
-reversed_back (x ∷ xs) n m = either (Includes-append_cases (reverse xs) (x ∷ []) n (subst (λ ys. Includes ys n) (reverse-append (x ∷ []) xs) m))
-    (λ k. inr (reversed_back xs n k)) (λ k. either k (λ e. inl e) (λ e. absurd e))
-
 pub weak_lives : (test : Object → Bool) (objects : List Object) (o weak : ℕ) (weaks : List ℕ) → weak_references_if test objects o ≡ weak ∷ weaks → Includes (serials objects) weak
 weak_lives test objects o weak weaks e = go (unwrap_or (option_map test (object_at objects o)) false) e
   where
     go : (b : Bool) → (if b then weak_references objects o else []) ≡ weak ∷ weaks → Includes (serials objects) weak
-    go true k = filter_lives (is_reference_to o) objects weak (reversed_back (serials (filter (is_reference_to o) objects)) weak (subst (λ ys. Includes ys weak) (sym k) (inl refl)))
+    go true k = filter_lives (is_reference_to o) objects weak (Includes-reverse (serials (filter (is_reference_to o) objects)) weak (subst (λ ys. Includes ys weak) (sym k) (inl refl)))
     go false k = absurd (let no : [] ≡ weak ∷ weaks = k in cc)
 
 pub without_gone : (o : ℕ) (objects : List Object) → ¬ Includes (serials (without o objects)) o

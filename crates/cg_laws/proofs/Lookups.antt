@@ -1,5 +1,5 @@
 -- What a lookup by serial finds among the objects, and what its entries hold.
-use Rattle.std.proofs.Common.{◌≡◌, ◌≢◌, refl, sym, ◌∙◌, ap, subst, ℕ, zero, suc, ◌-◌, ◌≤◌, Bool, true, false, cond, inl, inr, ◌⊎◌, List, [], ◌∷◌, ◌++◌, Option, Some, None, take, length, reverse, arith}
+use Rattle.std.proofs.Common.{◌≡◌, ◌≢◌, refl, sym, ◌∙◌, ap, subst, ℕ, suc, ◌-◌, ◌≤◌, Bool, true, false, cond, inl, inr, ◌⊎◌, List, [], ◌∷◌, ◌++◌, Option, Some, None, take, length, reverse, arith}
 use Rattle.std.specs.Prelude.{◌==◌, if◌then◌else◌, filter, option_to_list, option_map, option_and_then, unwrap_or}
 use Rattle.std.proofs.lemmas.Bool.{eq-eqb, ne_eqb}
 use Rattle.std.proofs.lemmas.List.{reverse-append}
@@ -39,11 +39,10 @@ references-append (x ∷ xs) ys o m =
     (λ k. either (references-append xs ys o k) (λ a. inl (Includes-append_right (entry_references x) (references xs) o a)) (λ b. inr b))
 
 pub references_take : (n : ℕ) (entries : List Entry) (o : ℕ) → Includes (references (take n entries)) o → Includes (references entries) o
-references_take zero entries o m = absurd m
-references_take (suc n) [] o m = absurd m
 references_take (suc n) (e ∷ entries) o m =
     either (Includes-append_cases (entry_references e) (references (take n entries)) o m) (λ k. Includes-append_left (entry_references e) (references entries) o
     k) (λ k. Includes-append_right (entry_references e) (references entries) o (references_take n entries o k))
+references_take n entries o m = absurd m
 
 -- what the entries of quiet objects do not hold
 pub entries_free : (objects : List Object) (s o : ℕ) → AreQuiet o objects → ¬ Includes (references (entries_of objects s)) o

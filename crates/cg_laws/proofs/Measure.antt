@@ -7,7 +7,7 @@ use Rattle.cg_value.specs.declared.Place.TheVariants.{Cand}
 use Rattle.cg_script.specs.declared.Script.{Script}
 use Rattle.cg_graph.specs.Object.{Object, is_at}
 use Rattle.cg_machine.specs.Program.{procedures}
-use Rattle.cg_machine.specs.World.{World, Activity, TopLevel, Framed, Releasing, Dying, Collecting, ShuttingDown, DyingPhase, Finalizer, AfterFinalizer, Clearing, Calling, AfterCall, LegacyFinalizer, AfterLegacy, Detaching, Emptying, CollectPhase, Start, WeakClearing, WeakCalling, AfterCallback, AfterRelease, Finalizing, AfterFinalizing, Split, Turns, Turn, AfterTurn, Ending, Outcome, Running, Ended, BudgetIsSpent}
+use Rattle.cg_machine.specs.World.{World, Activity, TopLevel, Framed, Releasing, Dying, Collecting, ShuttingDown, DyingPhase, Finalizer, AfterFinalizer, Clearing, Calling, AfterCall, LegacyFinalizer, AfterLegacy, Detaching, Emptying, CollectPhase, Start, WeakClearing, WeakCalling, AfterCallback, AfterRelease, Finalizing, AfterFinalizing, Split, Turn, AfterTurn, Ending, Outcome, Running}
 use Rattle.cg_machine.specs.Due.{is_due}
 use Rattle.cg_laws.proofs.Sums.{tally, bit}
 
@@ -15,8 +15,7 @@ use Rattle.cg_laws.proofs.Sums.{tally, bit}
 -- the script. Each weighs two, since it may bind a name; a bound name weighs one, since the shutdown gives it up.
 abbrev pub alive : Outcome → ℕ
 alive Running = 1
-alive Ended = 0
-alive BudgetIsSpent = 0
+alive other = 0
 
 abbrev pub commands_in : Activity → ℕ
 commands_in (TopLevel commands) = 2 * length commands + 2
@@ -58,10 +57,8 @@ phase_rank (WeakCalling waiting) = 6
 phase_rank (AfterFinalizing o) = 5
 phase_rank Finalizing = 4
 phase_rank Split = 3
-phase_rank Turns = 2
-phase_rank (Turn o) = 2
-phase_rank (AfterTurn o) = 2
 phase_rank Ending = 1
+phase_rank phase = 2
 
 abbrev pub rank_in : Activity → ℕ
 rank_in (Collecting c) = phase_rank c.phase

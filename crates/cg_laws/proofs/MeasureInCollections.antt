@@ -6,24 +6,22 @@ use Rattle.std.proofs.Common.{◌≡◌, refl, sym, subst, ℕ, ◌+◌, ◌<◌
 use Rattle.std.specs.Prelude.{◌==◌, ◌||◌, ◌&&◌, nat_lt, if◌then◌else◌, unwrap_or, option_map, option_and_then, is_some, filter}
 use Rattle.std.specs.List.{list_any}
 use Rattle.std.proofs.lemmas.Bool.{le-ltb, and_right}
-use Rattle.cg_value.specs.declared.Entry.{Entry}
 use Rattle.cg_value.specs.declared.Place.{Place}
 use Rattle.cg_value.specs.declared.Place.TheVariants.{Gen, Cand, Seen, Legacy, Pend}
 use Rattle.cg_script.specs.declared.Script.{Script}
 use Rattle.cg_graph.specs.Member.{Includes, includes}
 use Rattle.cg_graph.specs.Value.{entry_references, last_entry, without_last}
-use Rattle.cg_graph.specs.Object.{Object, change, object_at, is_in_map, entries_of, is_at, is_tuple, with_place, with_entries, with_referent, marked, serials_at, serials}
+use Rattle.cg_graph.specs.Object.{Object, change, object_at, entries_of, is_at, with_place, with_entries, with_referent, marked, serials_at, serials}
 use Rattle.cg_graph.proofs.Members.{Includes-filter_cases}
 use Rattle.cg_machine.specs.declared.event.FrameSpec.{FrameSpec}
 use Rattle.cg_machine.specs.declared.event.Event.{Event}
-use Rattle.cg_machine.specs.declared.event.Event.TheVariants.{GcSaved}
 use Rattle.cg_machine.specs.Program.{profile_of}
-use Rattle.cg_machine.specs.World.{World, Activity, Releasing, Collecting, Collection, CollectPhase, Start, WeakClearing, WeakCalling, AfterCallback, AfterRelease, Finalizing, AfterFinalizing, Split, Turns, Turn, AfterTurn, Ending, Numbers, Running, with_change, with_objects}
-use Rattle.cg_machine.specs.Frame.{Transition, start_frame}
+use Rattle.cg_machine.specs.World.{World, Activity, Releasing, Collecting, Collection, CollectPhase, Start, WeakClearing, WeakCalling, AfterCallback, AfterRelease, Finalizing, AfterFinalizing, Split, Turns, Turn, AfterTurn, Ending, Numbers, Running, with_objects}
+use Rattle.cg_machine.specs.Frame.{start_frame}
 use Rattle.cg_machine.specs.Weak.{loses_referent}
 use Rattle.cg_machine.specs.Dying.{finalizer_to_run}
 use Rattle.cg_machine.specs.Due.{is_due}
-use Rattle.cg_machine.specs.Collect.{collection_at, merged, merged_place, begun, survived, sorted, start_world, survivor_count, StartStep, older, waits, ClearsOne, WeakClearingStep, calls_back, after_release, looks_at, FinalizingStep, get_older, SplitStep, takes_turn, TurnsStep, saved, all_saved, has_flag, save_all, empties, after_turn, EndStep, PhaseStep, loses_at_split, is_saved}
+use Rattle.cg_machine.specs.Collect.{collection_at, merged, merged_place, begun, survived, sorted, start_world, survivor_count, older, waits, calls_back, after_release, looks_at, get_older, takes_turn, saved, all_saved, empties, after_turn, PhaseStep, loses_at_split, is_saved}
 use Rattle.cg_laws.proofs.Sums.{tally, tally-append, tally-map_le}
 use Rattle.cg_represents.proofs.Serials.{change-shortened, shortened}
 use Rattle.cg_laws.proofs.Measure.{commands_left, is_first, is_starting, due_rank, due_left, phase_rank, rank_in, left_at, left_in, entries_in, referents_in, summary, Lower, by_rank, by_left, by_entries, by_referents, weight_in, size_of}
@@ -31,6 +29,7 @@ use Rattle.cg_laws.proofs.FewerEntries.{Faded, unchanged, change_fades, place_fa
 use Rattle.cg_laws.proofs.Candidates.{leaves, others_fewer, only_others, saved_leaves, member_at, AllLose-fades}
 use Rattle.cg_laws.proofs.InvariantOfRuns.{collections_in, Sound, Moves, starts, IsPlain, CountsNothing, plain_counts}
 use Rattle.cg_laws.proofs.Clearing.{refers_early}
+use Rattle.cg_laws.proofs.Starting.{turn_either, called_back_either, option_either}
 
 -- no collection is underway below
 pub record NoneUnderway (stack : List Activity) : Type 0 where
@@ -52,9 +51,8 @@ pub data Progresses (before after : List Object) (p q : CollectPhase) (tops : Li
       before → tally weight_in tops ≤ 0 → Progresses before after p q tops
 
 due_same : (b c d s : Bool) → c ≡ false → d ≡ false → due_rank b (c || s) ≤ due_rank b (d || s)
-due_same b true d s e f = cc
-due_same b false true s e f = cc
 due_same b false false s e f = omega arith
+due_same b bit d s e f = cc
 
 module _ (script : Script) (c : Collection) (below : List Activity) (v : World) where
   pub goes_to : (p q : CollectPhase) (d : Collection) (tops : List Activity) (objects : List Object) → IsPlain tops → is_first p ≡ false → is_first q ≡ false
@@ -128,9 +126,58 @@ module _ (script : Script) (c : Collection) (below : List Activity) (v : World) 
   not_due true = omega arith
   not_due false = omega arith
 
-  start_moves : (events : List Event) (after : World) → StartStep script (collection_at c Start below v) c below events after
-      → Sound (collection_at c Start below v) → Moves script (collection_at c Start below v) after
-  start_moves events after step sound = moves_to Start after now step.world (record {
+  has_referent : (o : Option ℕ) (f : ℕ → Bool) → unwrap_or (option_map f o) false ≡ true → is_some o ≡ true
+  has_referent None f e = e
+  has_referent (Some r) f e = refl
+
+  calls_back_moves : (waiting : List ℕ) → Sound (collection_at c (WeakCalling waiting) below v) → v.outcome ≡ Running
+      → Moves script (collection_at c (WeakCalling waiting) below v) (calls_back script c waiting below (collection_at c (WeakCalling waiting) below v)).1
+  calls_back_moves [] sound running = turns_to (WeakCalling []) Finalizing [] tt refl refl (omega arith) (omega arith) sound
+  calls_back_moves (weak ∷ waiting) sound running = calls_for (WeakCalling (weak ∷ waiting)) (AfterCallback weak waiting) _ v.objects (unchanged v.objects) sound running
+
+  after_wait_moves : (weak : ℕ) (waiting : List ℕ) → Sound (collection_at c (AfterRelease weak waiting) below v)
+      → Moves script (collection_at c (AfterRelease weak waiting) below v) (after_release c weak waiting below (collection_at c (AfterRelease weak waiting)
+      below v)).1
+  after_wait_moves weak waiting sound = called_back_either (λ lines. Moves script (collection_at c (AfterRelease weak waiting) below v)) c weak waiting below
+      (collection_at c (AfterRelease weak waiting) below v)
+      (λ t. changes (AfterRelease weak waiting) (WeakCalling waiting) (change (with_place (Gen (older c.generation))) weak v.objects)
+      (change_fades (with_place (Gen (older c.generation))) (place_fades (Gen (older c.generation)) refl) weak v.objects) refl refl
+      (next_phase (omega arith) (change_fades (with_place (Gen (older c.generation))) (place_fades (Gen (older c.generation)) refl) weak v.objects).entries
+      (omega arith)) sound)
+      (λ t. goes_to (AfterRelease weak waiting) (WeakCalling waiting) (record c { collected = c.collected + 1 }) [] v.objects tt refl refl all_stay
+      (next_phase (omega arith) (omega arith) (omega arith)) sound)
+
+  turn_moves : (x : Object) → Includes v.objects x → is_at Cand x ≡ true → Sound (collection_at c Turns below v) → Moves script (collection_at c Turns below v)
+      (takes_turn c x below (collection_at c Turns below v)).1
+  turn_moves x m e sound = turn_either (λ lines. Moves script (collection_at c Turns below v)) c x below (collection_at c Turns below v)
+      (λ t. goes_to Turns Turns c [] (change (with_place next) x.serial (saved x.serial v.objects)) tt refl refl
+      (stays_after (change (with_place next) x.serial (saved x.serial v.objects)) (saved x.serial v.objects) v.objects
+      (faded_stays (change (with_place next) x.serial (saved x.serial v.objects)) (saved x.serial v.objects) (moved (saved x.serial v.objects)))
+      (saved_stays x.serial v.objects))
+      (fewer_turns (omega arith) (omega (arith, saved_leaves next refl v.objects x m e)) (omega (
+        arith,
+        (moved (saved x.serial v.objects)).entries,
+        saved_entries x.serial 1 v.next_serial v.objects sound.rises,
+      )) (omega arith)) sound)
+      (λ t s. changes Turns Turns (change (with_place next) x.serial v.objects) (moved v.objects) refl refl
+      (fewer_turns (omega arith) (omega (arith, leaves next refl v.objects x.serial x m refl e)) (omega (arith, (moved v.objects).entries)) (omega arith)) sound)
+      (λ t s. goes_to Turns (Turn x.serial) c [] v.objects tt refl refl all_stay (fewer_turns (omega arith) (omega (arith, others_fewer v.objects x m e)) (omega arith) (omega arith)) sound)
+    where
+      next : Place
+      next = Gen (older c.generation)
+
+      moved : (objects : List Object) → Faded (change (with_place next) x.serial objects) objects
+      moved objects = change_fades (with_place next) (place_fades next refl) x.serial objects
+
+  after_turn_moves : (o : ℕ) → Sound (collection_at c (AfterTurn o) below v) → Moves script (collection_at c (AfterTurn o) below v) (after_turn c o below (collection_at c (AfterTurn o) below v)).1
+  after_turn_moves o sound =
+      let fade = change_fades (with_place (Gen (older c.generation))) (place_fades (Gen (older c.generation)) refl) o v.objects in
+      changes (AfterTurn o) Turns (change (with_place (Gen (older c.generation))) o v.objects) fade refl refl
+      (fewer_turns (omega arith) (omega (arith, only_others (Gen (older c.generation)) refl o v.objects)) (omega (arith, fade.entries)) (omega arith)) sound
+
+  pub phase_moves : (p : CollectPhase) (events : List Event) (after : World) → PhaseStep script c p below (collection_at c p below v) events after
+      → Sound (collection_at c p below v) → v.outcome ≡ Running → Moves script (collection_at c p below v) after
+  phase_moves Start events after step sound running = moves_to Start after now step.world (record {
     sound = record { rises = stays.rises 1 v.next_serial sound.rises; bottom = sound.bottom; single = sound.single };
     lower = by_rank (omega arith) stays.size (subst (λ b. due_rank b (list_any is_starting below) ≤ due_left (collection_at c Start below v))
         (sym (begun_not_due c.generation count v.numbers)) (not_due (list_any is_starting below))) (omega arith) (omega (arith, same_entries)) stays.referents
@@ -158,15 +205,7 @@ module _ (script : Script) (c : Collection) (below : List Activity) (v : World) 
           let first = placed_entries step.places (is_at (Gen c.generation)) w.objects in
           let second : entries_in w.objects ≤ entries_in v.objects = tally-map_le (λ x. length x.entries) (λ x. with_place (merged_place c.generation x.place) x) (λ x. omega arith) v.objects in
           omega (arith, first, second)
-
-  has_referent : (o : Option ℕ) (f : ℕ → Bool) → unwrap_or (option_map f o) false ≡ true → is_some o ≡ true
-  has_referent None f e = e
-  has_referent (Some r) f e = refl
-
-  clears_moves : (waiting : List ℕ) (events : List Event) (after : World) → ClearsOne (profile_of script.items) c waiting below
-      (collection_at c (WeakClearing waiting) below v) events after → Sound (collection_at c (WeakClearing waiting) below v)
-      → Moves script (collection_at c (WeakClearing waiting) below v) after
-  clears_moves waiting events after step sound = moves_to (WeakClearing waiting) after _ step.yields.1 (go (waits v.objects step.weak))
+  phase_moves (WeakClearing waiting) events after (inl step) sound running = moves_to (WeakClearing waiting) after _ step.yields.1 (go (waits v.objects step.weak))
     where
       lost : List Object
       lost = loses_referent step.weak v.objects
@@ -187,60 +226,25 @@ module _ (script : Script) (c : Collection) (below : List Activity) (v : World) 
           (faded_stays (change (with_place Pend) step.weak lost) v.objects (faded_after (change (with_place Pend) step.weak lost) lost v.objects pend fade))
           (fewer_referents (omega arith) (omega (arith, pend.condemned, fade.condemned)) (omega (arith, pend.entries, fade.entries)) (omega (arith, pend.referents, fewer)) (omega arith)) sound
       go false = changes (WeakClearing waiting) (WeakClearing waiting) lost fade refl refl (fewer_referents (omega arith) (omega (arith, fade.condemned)) fade.entries fewer (omega arith)) sound
-
-  clearing_moves : (waiting : List ℕ) (events : List Event) (after : World) → WeakClearingStep (profile_of script.items) c waiting below
-      (collection_at c (WeakClearing waiting) below v) events after → Sound (collection_at c (WeakClearing waiting) below v)
-      → Moves script (collection_at c (WeakClearing waiting) below v) after
-  clearing_moves waiting events after (inl step) sound = clears_moves waiting events after step sound
-  clearing_moves waiting events after (inr step) sound = moves_to (WeakClearing waiting) after _ step.1.1 (turns_to (WeakClearing waiting) (WeakCalling waiting)
+  phase_moves (WeakClearing waiting) events after (inr step) sound running = moves_to (WeakClearing waiting) after _ step.1.1 (turns_to (WeakClearing waiting) (WeakCalling waiting)
       [] tt refl refl (omega arith) (omega arith) sound)
-
-  calls_back_moves : (waiting : List ℕ) → Sound (collection_at c (WeakCalling waiting) below v) → v.outcome ≡ Running
-      → Moves script (collection_at c (WeakCalling waiting) below v) (calls_back script c waiting below (collection_at c (WeakCalling waiting) below v)).1
-  calls_back_moves [] sound running = turns_to (WeakCalling []) Finalizing [] tt refl refl (omega arith) (omega arith) sound
-  calls_back_moves (weak ∷ waiting) sound running = calls_for (WeakCalling (weak ∷ waiting)) (AfterCallback weak waiting) _ v.objects (unchanged v.objects) sound running
-
-  after_wait_moves : (weak : ℕ) (waiting : List ℕ) → Sound (collection_at c (AfterRelease weak waiting) below v)
-      → Moves script (collection_at c (AfterRelease weak waiting) below v) (after_release c weak waiting below (collection_at c (AfterRelease weak waiting)
-      below v)).1
-  after_wait_moves weak waiting sound = go (is_in_map v.objects weak)
-    where
-      go : (b : Bool) → (let t : Transition = if b then (
-        [],
-        collection_at c (WeakCalling waiting) below (with_change (with_place (Gen (older c.generation)))
-            weak v),
-      ) else ([], collection_at (record c { collected = c.collected + 1 }) (WeakCalling waiting) below v) in Moves script (collection_at c
-          (AfterRelease weak waiting) below v) t.1)
-      go true = changes (AfterRelease weak waiting) (WeakCalling waiting) (change (with_place (Gen (older c.generation))) weak v.objects)
-          (change_fades (with_place (Gen (older c.generation))) (place_fades (Gen (older c.generation)) refl) weak v.objects) refl refl
-          (next_phase (omega arith) (change_fades (with_place (Gen (older c.generation))) (place_fades (Gen (older c.generation)) refl) weak v.objects).entries
-          (omega arith)) sound
-      go false = goes_to (AfterRelease weak waiting) (WeakCalling waiting) (record c { collected = c.collected + 1 }) [] v.objects tt refl refl all_stay
-          (next_phase (omega arith) (omega arith) (omega arith)) sound
-
-  looks_at_moves : (o : ℕ) (m : Option ℕ) → (x : Object) × Includes v.objects x × (x.serial ≡ o) × (is_at Cand x ≡ true)
-      → Sound (collection_at c Finalizing below v) → v.outcome ≡ Running → Moves script (collection_at c Finalizing below v)
-      (looks_at script c o below (collection_at c Finalizing below v) m).1
-  looks_at_moves o None y sound running =
-      changes Finalizing Finalizing (change (with_place Seen) o v.objects) (change_fades (with_place Seen) (place_fades Seen refl) o v.objects) refl refl
-      (fewer_turns (omega arith) (omega (arith, leaves Seen refl v.objects o y.0 y.1 y.2 y.3))
-      (omega (arith, (change_fades (with_place Seen) (place_fades Seen refl) o v.objects).entries)) (omega arith)) sound
-  looks_at_moves o (Some p) y sound running =
-      calls_for Finalizing (AfterFinalizing o) _ (change (λ x. marked (with_place Seen x)) o v.objects) (change_fades (λ x. marked (with_place Seen x))
-      (then_fades (with_place Seen) marked (place_fades Seen refl) marked_fades) o v.objects) sound running
-
-  finalizing_moves : (events : List Event) (after : World) → FinalizingStep script c below (collection_at c Finalizing below v) events after
-      → Sound (collection_at c Finalizing below v) → v.outcome ≡ Running → Moves script (collection_at c Finalizing below v) after
-  finalizing_moves events after (inl step) sound running =
-      moves_to Finalizing after _ step.yields.1 (looks_at_moves step.object (option_and_then (finalizer_to_run script) (object_at v.objects step.object))
-      (member_at v.objects Cand step.object step.condemned) sound running)
-  finalizing_moves events after (inr step) sound running =
+  phase_moves (WeakCalling waiting) events after step sound running = moves_to (WeakCalling waiting) after _ step.1 (calls_back_moves waiting sound running)
+  phase_moves (AfterCallback weak waiting) events after step sound running = moves_to (AfterCallback weak waiting) after _ step.1
+      (turns_to (AfterCallback weak waiting) (AfterRelease weak waiting) (Releasing (weak ∷ []) ∷ []) tt refl refl (omega arith) (omega arith) sound)
+  phase_moves (AfterRelease weak waiting) events after step sound running = moves_to (AfterRelease weak waiting) after _ step.1 (after_wait_moves weak waiting sound)
+  phase_moves Finalizing events after (inl step) sound running =
+      moves_to Finalizing after _ step.yields.1 (option_either (λ lines. Moves script (collection_at c Finalizing below v)) (looks_at script c step.object below (collection_at c Finalizing below v)) (option_and_then (finalizer_to_run script) (object_at v.objects step.object))
+      (λ e. changes Finalizing Finalizing (change (with_place Seen) step.object v.objects) (change_fades (with_place Seen) (place_fades Seen refl) step.object v.objects) refl refl
+      (fewer_turns (omega arith) (omega (arith, leaves Seen refl v.objects step.object (member_at v.objects Cand step.object step.condemned).0 (member_at v.objects Cand step.object step.condemned).1 (member_at v.objects Cand step.object step.condemned).2 (member_at v.objects Cand step.object step.condemned).3))
+      (omega (arith, (change_fades (with_place Seen) (place_fades Seen refl) step.object v.objects).entries)) (omega arith)) sound)
+      (λ p e. calls_for Finalizing (AfterFinalizing step.object) _ (change (λ x. marked (with_place Seen x)) step.object v.objects) (change_fades (λ x. marked (with_place Seen x))
+      (then_fades (with_place Seen) marked (place_fades Seen refl) marked_fades) step.object v.objects) sound running))
+  phase_moves Finalizing events after (inr step) sound running =
       moves_to Finalizing after _ step.1.1 (goes_to Finalizing Split c [] (map (λ x. if is_at Seen x then with_place Cand x else x) v.objects) tt refl refl
       (placed (λ x. Cand) (is_at Seen) v.objects) (next_phase (omega arith) (placed_entries (λ x. Cand) (is_at Seen) v.objects) (omega arith)) sound)
-
-  split_moves : (events : List Event) (after : World) → SplitStep c below (collection_at c Split below v) events after → Sound (collection_at c Split below v)
-      → Moves script (collection_at c Split below v) after
-  split_moves events after step sound = moves_to Split after _ step.world
+  phase_moves (AfterFinalizing o) events after step sound running = moves_to (AfterFinalizing o) after _ step.1 (turns_to (AfterFinalizing o) Finalizing
+      (Releasing (o ∷ []) ∷ []) tt refl refl (omega arith) (omega arith) sound)
+  phase_moves Split events after step sound running = moves_to Split after _ step.world
       (goes_to Split Turns (record c { collected = c.collected + length (serials_at step.objects Cand) }) [] step.objects tt refl refl
       (faded_stays step.objects v.objects fade) (next_phase (omega arith) fade.entries (omega arith)) sound)
     where
@@ -251,63 +255,20 @@ module _ (script : Script) (c : Collection) (below : List Activity) (v : World) 
       fade = faded_after step.objects now v.objects (AllLose-fades (loses_at_split now) now step.cleared step.objects step.lose)
           (map_fades (λ x. if includes step.alive x.serial then with_place (Gen (older c.generation)) x else x)
           (if_fades (with_place (Gen (older c.generation))) (place_fades (Gen (older c.generation)) refl) (λ x. includes step.alive x.serial)) v.objects)
-
-  turn_moves : (x : Object) → Includes v.objects x → is_at Cand x ≡ true → Sound (collection_at c Turns below v) → Moves script (collection_at c Turns below v)
-      (takes_turn c x below (collection_at c Turns below v)).1
-  turn_moves x m e sound = go (has_flag c.flags save_all) (is_tuple x)
-    where
-      next : Place
-      next = Gen (older c.generation)
-
-      older_now : World
-      older_now = collection_at c Turns below (with_change (with_place next) x.serial v)
-
-      moved : (objects : List Object) → Faded (change (with_place next) x.serial objects) objects
-      moved objects = change_fades (with_place next) (place_fades next refl) x.serial objects
-
-      go : (b t : Bool) → (let s : Transition = if b
-          then (GcSaved x.serial ∷ [], collection_at c Turns below (with_objects (change (with_place next) x.serial (saved x.serial v.objects)) v)) else if t
-          then ([], older_now) else ([], collection_at c (Turn x.serial) below v) in Moves script (collection_at c Turns below v) s.1)
-      go true t = goes_to Turns Turns c [] (change (with_place next) x.serial (saved x.serial v.objects)) tt refl refl
-          (stays_after (change (with_place next) x.serial (saved x.serial v.objects)) (saved x.serial v.objects) v.objects
-          (faded_stays (change (with_place next) x.serial (saved x.serial v.objects)) (saved x.serial v.objects) (moved (saved x.serial v.objects)))
-          (saved_stays x.serial v.objects))
-          (fewer_turns (omega arith) (omega (arith, saved_leaves next refl v.objects x m e)) (omega (
-            arith,
-            (moved (saved x.serial v.objects)).entries,
-            saved_entries x.serial 1 v.next_serial v.objects sound.rises,
-          )) (omega arith)) sound
-      go false true = changes Turns Turns (change (with_place next) x.serial v.objects) (moved v.objects) refl refl
-          (fewer_turns (omega arith) (omega (arith, leaves next refl v.objects x.serial x m refl e)) (omega (arith, (moved v.objects).entries)) (omega arith)) sound
-      go false false = goes_to Turns (Turn x.serial) c [] v.objects tt refl refl all_stay (fewer_turns (omega arith) (omega (arith, others_fewer v.objects x m e)) (omega arith) (omega arith)) sound
-
-  turns_moves : (events : List Event) (after : World) → TurnsStep c below (collection_at c Turns below v) events after → Sound (collection_at c Turns below v)
-      → Moves script (collection_at c Turns below v) after
-  turns_moves events after (inl step) sound =
+  phase_moves Turns events after (inl step) sound running =
       let kept = Includes-filter_cases (is_at Cand) v.objects step.object step.member in
       moves_to Turns after _ step.yields.1 (turn_moves step.object kept.0 kept.1 sound)
-  turns_moves events after (inr step) sound = moves_to Turns after _ step.1.1 (turns_to Turns Ending [] tt refl refl (omega arith) (omega arith) sound)
-
-  empties_moves : (o : ℕ) (m : Option Entry) → last_entry (entries_of v.objects o) ≡ m → Sound (collection_at c (Turn o) below v)
-      → Moves script (collection_at c (Turn o) below v) (empties c o below (collection_at c (Turn o) below v) m).1
-  empties_moves o None e sound = goes_to (Turn o) (AfterTurn o) c (Releasing (o ∷ []) ∷ []) v.objects tt refl refl all_stay (fewer_turns (omega arith) (omega arith) (omega arith) (omega arith)) sound
-  empties_moves o (Some entry) e sound =
-      let same = change-shortened o 1 v.next_serial v.objects sound.rises in
+  phase_moves Turns events after (inr step) sound running = moves_to Turns after _ step.1.1 (turns_to Turns Ending [] tt refl refl (omega arith) (omega arith) sound)
+  phase_moves (Turn o) events after step sound running = moves_to (Turn o) after _ step.1 (option_either (λ lines. Moves script (collection_at c (Turn o) below v)) (empties c o below (collection_at c (Turn o) below v)) (last_entry (entries_of v.objects o))
+      (λ e. goes_to (Turn o) (AfterTurn o) c (Releasing (o ∷ []) ∷ []) v.objects tt refl refl all_stay (fewer_turns (omega arith) (omega arith) (omega arith) (omega arith)) sound)
+      (λ entry e. let same = change-shortened o 1 v.next_serial v.objects sound.rises in
       let fade : Faded (change (with_entries (without_last (entries_of v.objects o))) o v.objects) v.objects = subst (λ os. Faded os v.objects) (sym same)
       (change_fades shortened shortened_fades o v.objects) in
       goes_to (Turn o) (Turn o) c (Releasing (entry_references entry) ∷ []) (change (with_entries (without_last (entries_of v.objects o))) o v.objects) tt refl refl (faded_stays _ v.objects fade)
       (fewer_entries (omega arith) (omega (arith, fade.others o)) (subst (λ os. entries_in os < entries_in v.objects) (sym same) (shorter v.objects o entry e))
-      (omega (arith, references_two entry))) sound
-
-  after_turn_moves : (o : ℕ) → Sound (collection_at c (AfterTurn o) below v) → Moves script (collection_at c (AfterTurn o) below v) (after_turn c o below (collection_at c (AfterTurn o) below v)).1
-  after_turn_moves o sound =
-      let fade = change_fades (with_place (Gen (older c.generation))) (place_fades (Gen (older c.generation)) refl) o v.objects in
-      changes (AfterTurn o) Turns (change (with_place (Gen (older c.generation))) o v.objects) fade refl refl
-      (fewer_turns (omega arith) (omega (arith, only_others (Gen (older c.generation)) refl o v.objects)) (omega (arith, fade.entries)) (omega arith)) sound
-
-  end_moves : (events : List Event) (after : World) → EndStep script c below (collection_at c Ending below v) events after
-      → Sound (collection_at c Ending below v) → Moves script (collection_at c Ending below v) after
-  end_moves events after step sound = moves_to Ending after _ step.world (record {
+      (omega (arith, references_two entry))) sound))
+  phase_moves (AfterTurn o) events after step sound running = moves_to (AfterTurn o) after _ step.1 (after_turn_moves o sound)
+  phase_moves Ending events after step sound running = moves_to Ending after _ step.world (record {
     sound = record { rises = stays.rises 1 v.next_serial sound.rises; bottom = sound.bottom; single = omega (arith, sound.single) };
     lower = by_rank (omega arith) stays.size (omega arith) (omega arith) grown stays.referents (omega arith);
   })
@@ -331,20 +292,3 @@ module _ (script : Script) (c : Collection) (below : List Activity) (v : World) 
           let third = no_longer step.keeps (serials (filter (is_saved script c) v.objects)) step.keeps_order in
           let fourth = filter_size (is_saved script c) v.objects in
           omega (arith, first, second, third, fourth)
-
-  pub phase_moves : (p : CollectPhase) (events : List Event) (after : World) → PhaseStep script c p below (collection_at c p below v) events after
-      → Sound (collection_at c p below v) → v.outcome ≡ Running → Moves script (collection_at c p below v) after
-  phase_moves Start events after step sound running = start_moves events after step sound
-  phase_moves (WeakClearing waiting) events after step sound running = clearing_moves waiting events after step sound
-  phase_moves (WeakCalling waiting) events after step sound running = moves_to (WeakCalling waiting) after _ step.1 (calls_back_moves waiting sound running)
-  phase_moves (AfterCallback weak waiting) events after step sound running = moves_to (AfterCallback weak waiting) after _ step.1
-      (turns_to (AfterCallback weak waiting) (AfterRelease weak waiting) (Releasing (weak ∷ []) ∷ []) tt refl refl (omega arith) (omega arith) sound)
-  phase_moves (AfterRelease weak waiting) events after step sound running = moves_to (AfterRelease weak waiting) after _ step.1 (after_wait_moves weak waiting sound)
-  phase_moves Finalizing events after step sound running = finalizing_moves events after step sound running
-  phase_moves (AfterFinalizing o) events after step sound running = moves_to (AfterFinalizing o) after _ step.1 (turns_to (AfterFinalizing o) Finalizing
-      (Releasing (o ∷ []) ∷ []) tt refl refl (omega arith) (omega arith) sound)
-  phase_moves Split events after step sound running = split_moves events after step sound
-  phase_moves Turns events after step sound running = turns_moves events after step sound
-  phase_moves (Turn o) events after step sound running = moves_to (Turn o) after _ step.1 (empties_moves o (last_entry (entries_of v.objects o)) refl sound)
-  phase_moves (AfterTurn o) events after step sound running = moves_to (AfterTurn o) after _ step.1 (after_turn_moves o sound)
-  phase_moves Ending events after step sound running = end_moves events after step sound

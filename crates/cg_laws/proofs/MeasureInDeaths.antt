@@ -12,21 +12,20 @@ use Rattle.cg_graph.specs.Value.{reference_in, entry_references, last_entry, wit
 use Rattle.cg_graph.specs.Object.{Object, change, without, object_at, entries_of, with_place, with_entries, with_referent, marked, serials}
 use Rattle.cg_graph.proofs.Members.{either, Includes-append_cases, Includes-map_cases, Includes-filter_cases}
 use Rattle.cg_machine.specs.declared.event.FrameSort.{FrameSort}
-use Rattle.cg_machine.specs.declared.event.FrameSort.TheVariants.{Del, Legacy, Callback, Call}
+use Rattle.cg_machine.specs.declared.event.FrameSort.TheVariants.{Del, Legacy, Call}
 use Rattle.cg_machine.specs.declared.event.FrameSpec.{FrameSpec}
 use Rattle.cg_machine.specs.Program.{legacy_of}
-use Rattle.cg_machine.specs.declared.event.Event.TheVariants.{Alive}
 use Rattle.cg_machine.specs.World.{push, World, Activity, TopLevel, Framed, Releasing, Dying, Collecting, ShuttingDown, Frame, Numbers, DyingPhase, Finalizer, AfterFinalizer, Clearing, Calling, AfterCall, LegacyFinalizer, AfterLegacy, Detaching, Emptying, Running, with_stack, with_change}
-use Rattle.cg_machine.specs.Frame.{gives_up_function, Transition, start_frame, frame_end, begin_death, released}
-use Rattle.cg_machine.specs.Holdings.{in_degree, is_dying}
+use Rattle.cg_machine.specs.Frame.{gives_up_function, start_frame, frame_end, released}
 use Rattle.cg_machine.specs.Weak.{has_weak_references, is_reference_to, weak_references_if, weak_references, loses_referent, callback_of}
-use Rattle.cg_machine.specs.Dying.{has_finalizers, finalizer_to_run, run_finalizer, run_legacy, after_frame, clear_one, call_one, detach_one, empty_one, dying}
+use Rattle.cg_machine.specs.Dying.{has_finalizers, finalizer_to_run, run_finalizer, run_legacy, after_frame, clear_one, detach_one, empty_one, dying}
 use Rattle.cg_machine.specs.Due.{is_due}
 use Rattle.cg_laws.proofs.Sums.{tally, tally-append}
 use Rattle.cg_represents.proofs.Serials.{change-shortened, shortened}
 use Rattle.cg_laws.proofs.Measure.{commands_left, is_starting, due_rank, due_left, rank_in, left_in, entries_in, referents_in, death_weight, weight_in, summary, Lower, by_entries, by_referents, by_weight}
 use Rattle.cg_laws.proofs.FewerEntries.{Fades, Faded, unchanged, change_fades, filter_fades, place_fades, referent_fades, shortened_fades, entries_fades, marked_fades, then_fades, loses_one, shorter, left_fades}
 use Rattle.cg_laws.proofs.InvariantOfRuns.{HasBottom, collections_in, Sound, Moves, starts, IsPlain, CountsNothing, plain_counts, due_less}
+use Rattle.cg_laws.proofs.Starting.{own_frame_either, release_either, option_either, list_either}
 
 abbrev pub IsLow : Activity → Type 0
 IsLow (TopLevel commands) = ⊥
@@ -132,7 +131,7 @@ refers_first test objects o weak weaks e =
     (found.0, kept.0, found.2, refers_some o found.0.referent kept.1)
 
 -- an entry has two references at most
-list_one : (m : Option ℕ) → length (option_to_list m) ≤ 1
+pub list_one : (m : Option ℕ) → length (option_to_list m) ≤ 1
 list_one None = omega arith
 list_one (Some o) = omega arith
 
@@ -160,28 +159,13 @@ module _ (script : Script) (o : ℕ) (below : List Activity) (v : World) where
       }) running
       (record { commands = omega arith; size = fade.size; entries = fade.entries; referents = fade.referents; weight = omega (arith, l) })
 
-  finalizer_moves : (m : Option ℕ) → Sound (death_at o Finalizer below v) → v.outcome ≡ Running → Moves script (death_at o Finalizer below v)
-      (run_finalizer script o below (death_at o Finalizer below v) m).1
-  finalizer_moves None sound running = goes_on Finalizer (Clearing []) (omega arith) sound
-  finalizer_moves (Some p) sound running = calls Finalizer AfterFinalizer (record { sort = Del; proc = p; subject = o; func = None })
-      (λ x. marked (with_place (Gen 0) x)) o (then_fades (with_place (Gen 0)) marked (place_fades (Gen 0) refl) marked_fades) (omega arith) sound running
-
-  legacy_moves : (m : Option ℕ) → Sound (death_at o LegacyFinalizer below v) → v.outcome ≡ Running → Moves script (death_at o LegacyFinalizer below v)
-      (run_legacy script o below (death_at o LegacyFinalizer below v) m).1
-  legacy_moves None sound running = goes_on LegacyFinalizer Detaching (omega arith) sound
-  legacy_moves (Some p) sound running = calls LegacyFinalizer AfterLegacy (record { sort = Legacy; proc = p; subject = o; func = None }) (with_place (Gen 0)) o
-      (place_fades (Gen 0) refl) (omega arith) sound running
-
   after_frame_moves : (phase next : DyingPhase) → death_weight next < death_weight phase → Sound (death_at o phase below v)
       → Moves script (death_at o phase below v) (after_frame o next below (death_at o phase below v)).1
-  after_frame_moves phase next l sound = go (in_degree (death_at o next below v) o == 0)
-    where
-      go : (b : Bool) → (let t : Transition = if b then ([], with_change (with_place Untracked) o (death_at o next below v))
-          else (Alive o ∷ [], with_stack below v) in Moves script (death_at o phase below v) t.1)
-      go true = quiet script v (Dying (record { object = o; phase = phase })) below (change (with_place Untracked) o v.objects) v.numbers
-          (Dying (record { object = o; phase = next }) ∷ []) tt tt (change_fades (with_place Untracked) (place_fades Untracked refl) o v.objects) (λ e. e)
-          (lighter (omega (arith, l))) sound
-      go false = quiet script v (Dying (record { object = o; phase = phase })) below v.objects v.numbers [] tt tt (unchanged v.objects) (λ e. e) (lighter (omega (arith, l))) sound
+  after_frame_moves phase next l sound = own_frame_either (λ lines. Moves script (death_at o phase below v)) o next below (death_at o phase below v)
+      (λ t. quiet script v (Dying (record { object = o; phase = phase })) below (change (with_place Untracked) o v.objects) v.numbers
+      (Dying (record { object = o; phase = next }) ∷ []) tt tt (change_fades (with_place Untracked) (place_fades Untracked refl) o v.objects) (λ e. e)
+      (lighter (omega (arith, l))) sound)
+      (λ t. quiet script v (Dying (record { object = o; phase = phase })) below v.objects v.numbers [] tt tt (unchanged v.objects) (λ e. e) (lighter (omega (arith, l))) sound)
 
   loses : (test : Object → Bool) (phase next : DyingPhase) → death_weight next ≤ death_weight phase → (weak : ℕ) (weaks : List ℕ) → weak_references_if test
       v.objects o ≡ weak ∷ weaks → Sound (death_at o phase below v)
@@ -192,74 +176,58 @@ module _ (script : Script) (o : ℕ) (below : List Activity) (v : World) where
       ∷ []) tt tt (change_fades (with_referent None) referent_fades weak v.objects) (λ e. e) (fewer_referents (loses_one v.objects weak y.0 y.1 y.2 y.3)
       (omega (arith, l))) sound
 
-  clearing_moves : (waiting weaks : List ℕ) → weak_references_if has_weak_references v.objects o ≡ weaks → Sound (death_at o (Clearing waiting) below v)
-      → Moves script (death_at o (Clearing waiting) below v) (clear_one o waiting below (death_at o (Clearing waiting) below v) weaks).1
-  clearing_moves waiting [] e sound = goes_on (Clearing waiting) (Calling waiting) (omega arith) sound
-  clearing_moves waiting (weak ∷ weaks) e sound = loses has_weak_references (Clearing waiting)
-      (Clearing (waiting ++ (if is_some (callback_of v.objects weak) then weak ∷ [] else []))) (omega arith) weak weaks e sound
-
-  detaching_moves : (weaks : List ℕ) → weak_references_if (has_finalizers script) v.objects o ≡ weaks → Sound (death_at o Detaching below v)
-      → Moves script (death_at o Detaching below v) (detach_one o below (death_at o Detaching below v) weaks).1
-  detaching_moves [] e sound = goes_on Detaching Emptying (omega arith) sound
-  detaching_moves (weak ∷ weaks) e sound = loses (has_finalizers script) Detaching Detaching (omega arith) weak weaks e sound
-
-  calling_moves : (waiting : List ℕ) → Sound (death_at o (Calling waiting) below v) → v.outcome ≡ Running → Moves script (death_at o (Calling waiting) below v)
-      (call_one script o below (death_at o (Calling waiting) below v) waiting).1
-  calling_moves [] sound running = goes_on (Calling []) LegacyFinalizer (omega arith) sound
-  calling_moves (weak ∷ waiting) sound running = calls (Calling (weak ∷ waiting)) (AfterCall weak (unwrap_or (callback_of v.objects weak) 0) waiting) _
-      (with_entries []) weak entries_fades (omega arith) sound running
-
-  emptying_moves : (m : Option Entry) → last_entry (entries_of v.objects o) ≡ m → Sound (death_at o Emptying below v)
-      → Moves script (death_at o Emptying below v) (empty_one o below (death_at o Emptying below v) m).1
-  emptying_moves None e sound = quiet script v (Dying (record { object = o; phase = Emptying })) below (without o v.objects)
-      (record v.numbers { zero_count = v.numbers.zero_count - 1 }) [] tt tt (filter_fades (λ x. not (x.serial == o)) v.objects) (less_due v.numbers)
-      (lighter (omega arith)) sound
-  emptying_moves (Some entry) e sound =
-      let same = change-shortened o 1 v.next_serial v.objects sound.rises in
-      quiet script v (Dying (record { object = o; phase = Emptying })) below (change (with_entries (without_last (entries_of v.objects o))) o v.objects)
-      v.numbers (Releasing (entry_references entry) ∷ Dying (record { object = o; phase = Emptying }) ∷ []) tt tt
-      (subst (λ os. Faded os v.objects) (sym same) (change_fades shortened shortened_fades o v.objects)) (λ e. e)
-      (fewer_entries (subst (λ os. entries_in os < entries_in v.objects) (sym same) (shorter v.objects o entry e)) (omega (arith, references_two entry))) sound
-
   pub dying_moves : (phase : DyingPhase) → Sound (death_at o phase below v) → v.outcome ≡ Running → Moves script (death_at o phase below v) (dying script o phase below (death_at o phase below v)).1
-  dying_moves Finalizer sound running = finalizer_moves (option_and_then (finalizer_to_run script) (object_at v.objects o)) sound running
+  dying_moves Finalizer sound running = option_either (λ lines. Moves script (death_at o Finalizer below v)) (run_finalizer script o below (death_at o Finalizer below v)) (option_and_then (finalizer_to_run script) (object_at v.objects o))
+      (λ e. goes_on Finalizer (Clearing []) (omega arith) sound)
+      (λ p e. calls Finalizer AfterFinalizer (record { sort = Del; proc = p; subject = o; func = None })
+      (λ x. marked (with_place (Gen 0) x)) o (then_fades (with_place (Gen 0)) marked (place_fades (Gen 0) refl) marked_fades) (omega arith) sound running)
   dying_moves AfterFinalizer sound running = after_frame_moves AfterFinalizer (Clearing []) (omega arith) sound
-  dying_moves (Clearing waiting) sound running = clearing_moves waiting (weak_references_if has_weak_references v.objects o) refl sound
-  dying_moves (Calling waiting) sound running = calling_moves waiting sound running
+  dying_moves (Clearing waiting) sound running = list_either (λ lines. Moves script (death_at o (Clearing waiting) below v)) (clear_one o waiting below (death_at o (Clearing waiting) below v)) (weak_references_if has_weak_references v.objects o)
+      (λ e. goes_on (Clearing waiting) (Calling waiting) (omega arith) sound)
+      (λ weak weaks e. loses has_weak_references (Clearing waiting)
+      (Clearing (waiting ++ (if is_some (callback_of v.objects weak) then weak ∷ [] else []))) (omega arith) weak weaks e sound)
+  dying_moves (Calling []) sound running = goes_on (Calling []) LegacyFinalizer (omega arith) sound
+  dying_moves (Calling (weak ∷ waiting)) sound running = calls (Calling (weak ∷ waiting)) (AfterCall weak (unwrap_or (callback_of v.objects weak) 0) waiting) _
+      (with_entries []) weak entries_fades (omega arith) sound running
   dying_moves (AfterCall weak callback waiting) sound running =
       quiet script v (Dying (record { object = o; phase = AfterCall weak callback waiting })) below v.objects v.numbers (Releasing (callback ∷ weak ∷ [])
       ∷ Dying (record { object = o; phase = Calling waiting }) ∷ []) tt tt (unchanged v.objects) (λ e. e) (lighter (omega arith)) sound
-  dying_moves LegacyFinalizer sound running = legacy_moves (option_and_then (legacy_of script) (object_at v.objects o)) sound running
+  dying_moves LegacyFinalizer sound running = option_either (λ lines. Moves script (death_at o LegacyFinalizer below v)) (run_legacy script o below (death_at o LegacyFinalizer below v)) (option_and_then (legacy_of script) (object_at v.objects o))
+      (λ e. goes_on LegacyFinalizer Detaching (omega arith) sound)
+      (λ p e. calls LegacyFinalizer AfterLegacy (record { sort = Legacy; proc = p; subject = o; func = None }) (with_place (Gen 0)) o
+      (place_fades (Gen 0) refl) (omega arith) sound running)
   dying_moves AfterLegacy sound running = after_frame_moves AfterLegacy Detaching (omega arith) sound
-  dying_moves Detaching sound running = detaching_moves (weak_references_if (has_finalizers script) v.objects o) refl sound
-  dying_moves Emptying sound running = emptying_moves (last_entry (entries_of v.objects o)) refl sound
+  dying_moves Detaching sound running = list_either (λ lines. Moves script (death_at o Detaching below v)) (detach_one o below (death_at o Detaching below v)) (weak_references_if (has_finalizers script) v.objects o)
+      (λ e. goes_on Detaching Emptying (omega arith) sound)
+      (λ weak weaks e. loses (has_finalizers script) Detaching Detaching (omega arith) weak weaks e sound)
+  dying_moves Emptying sound running = option_either (λ lines. Moves script (death_at o Emptying below v)) (empty_one o below (death_at o Emptying below v)) (last_entry (entries_of v.objects o))
+      (λ e. quiet script v (Dying (record { object = o; phase = Emptying })) below (without o v.objects)
+      (record v.numbers { zero_count = v.numbers.zero_count - 1 }) [] tt tt (filter_fades (λ x. not (x.serial == o)) v.objects) (less_due v.numbers)
+      (lighter (omega arith)) sound)
+      (λ entry e. let same = change-shortened o 1 v.next_serial v.objects sound.rises in
+      quiet script v (Dying (record { object = o; phase = Emptying })) below (change (with_entries (without_last (entries_of v.objects o))) o v.objects)
+      v.numbers (Releasing (entry_references entry) ∷ Dying (record { object = o; phase = Emptying }) ∷ []) tt tt
+      (subst (λ os. Faded os v.objects) (sym same) (change_fades shortened shortened_fades o v.objects)) (λ e. e)
+      (fewer_entries (subst (λ os. entries_in os < entries_in v.objects) (sym same) (shorter v.objects o entry e)) (omega (arith, references_two entry))) sound)
 
 pub released_moves : (script : Script) (references : List ℕ) (below : List Activity) (v : World) → Sound (with_stack (Releasing references ∷ below) v)
     → Moves script (with_stack (Releasing references ∷ below) v) (released references below (with_stack (Releasing references ∷ below) v)).1
 released_moves script [] below v sound = quiet script v (Releasing []) below v.objects v.numbers [] tt tt (unchanged v.objects) (λ e. e) (lighter (omega arith)) sound
-released_moves script (o ∷ references) below v sound = go (not (is_dying (with_stack (Releasing references ∷ below) v) o) && (in_degree (with_stack (Releasing references ∷ below) v) o == 0))
-  where
-    go : (b : Bool) → (let t : Transition = if b then ([], begin_death o (with_stack (Releasing references ∷ below) v))
-        else ([], with_stack (Releasing references ∷ below) v) in Moves script (with_stack (Releasing (o ∷ references) ∷ below) v) t.1)
-    go true = quiet script v (Releasing (o ∷ references)) below (change (λ x. with_referent None (with_place Untracked x)) o v.objects) v.numbers
-        (Dying (record { object = o; phase = Finalizer }) ∷ Releasing references ∷ []) tt tt
-        (change_fades (λ x. with_referent None (with_place Untracked x)) (then_fades (with_place Untracked) (with_referent None) (place_fades Untracked refl)
-        referent_fades) o v.objects) (λ e. e) (lighter (omega arith)) sound
-    go false = quiet script v (Releasing (o ∷ references)) below v.objects v.numbers (Releasing references ∷ []) tt tt (unchanged v.objects) (λ e. e) (lighter (omega arith)) sound
+released_moves script (o ∷ references) below v sound = release_either (λ lines. Moves script (with_stack (Releasing (o ∷ references) ∷ below) v)) o references below v
+    (λ t. quiet script v (Releasing (o ∷ references)) below (change (λ x. with_referent None (with_place Untracked x)) o v.objects) v.numbers
+    (Dying (record { object = o; phase = Finalizer }) ∷ Releasing references ∷ []) tt tt
+    (change_fades (λ x. with_referent None (with_place Untracked x)) (then_fades (with_place Untracked) (with_referent None) (place_fades Untracked refl)
+    referent_fades) o v.objects) (λ e. e) (lighter (omega arith)) sound)
+    (λ t. quiet script v (Releasing (o ∷ references)) below v.objects v.numbers (Releasing references ∷ []) tt tt (unchanged v.objects) (λ e. e) (lighter (omega arith)) sound)
 
 pub frame_end_moves : (script : Script) (f : Frame) (below : List Activity) (v : World) → Sound (with_stack (Framed f ∷ below) v)
     → Moves script (with_stack (Framed f ∷ below) v) (frame_end f (with_stack below v)).1
 frame_end_moves script f below v sound = by_sort f.sort f.function
   where
-    popped : Moves script (with_stack (Framed f ∷ below) v) (with_stack below v)
-    popped = quiet script v (Framed f) below v.objects v.numbers [] tt tt (unchanged v.objects) (λ e. e) (lighter (omega arith)) sound
-
     gives_up : (references : List ℕ) → length references ≤ 1 → Moves script (with_stack (Framed f ∷ below) v) (push (Releasing references) (with_stack below v))
     gives_up references few = quiet script v (Framed f) below v.objects v.numbers (Releasing references ∷ []) tt tt (unchanged v.objects) (λ e. e) (lighter (omega (arith, few))) sound
 
     by_sort : (sort : FrameSort) (function : Option ℕ) → Moves script (with_stack (Framed f ∷ below) v) (gives_up_function sort function (with_stack below v))
-    by_sort Del function = popped
-    by_sort Legacy function = popped
-    by_sort Callback function = popped
     by_sort Call None = gives_up [] (omega arith)
     by_sort Call (Some g) = gives_up (g ∷ []) (omega arith)
+    by_sort sort function = quiet script v (Framed f) below v.objects v.numbers [] tt tt (unchanged v.objects) (λ e. e) (lighter (omega arith)) sound

@@ -15,7 +15,7 @@ use Rattle.cg_machine.specs.World.{World, Activity}
 use Rattle.cg_machine.specs.Frame.{start_frame}
 use Rattle.cg_laws.specs.Origins.{all_commands, commands_on, IsOfScript}
 use Rattle.cg_laws.proofs.Unreferred.{IsLater}
-use Rattle.cg_laws.proofs.Advances.{Advance, Plainly, WithFrame, HasChanged, changed_origin, continues_idle, Tops, TopEnds, GivesFunction, GivesReference, BeginsDeath, TopGoesOn, GivesReferences}
+use Rattle.cg_laws.proofs.Advances.{Advance, Plainly, WithFrame, HasChanged, changed_origin, continues_idle, Tops, TopGoesOn, GivesReferences}
 use Rattle.cg_laws.proofs.Starting.{starts_either}
 use Rattle.cg_laws.proofs.Invariants.{on}
 
@@ -52,12 +52,9 @@ popped_origin script objects a below h = record { commands = λ command m. h.com
 
 -- what replaces the top activity has no commands
 tops_idle : (before after : List Object) (top : Activity) (tops below : List Activity) → Tops before after top tops → flat_map commands_on (tops ++ below) ≡ flat_map commands_on below
-tops_idle before after top tops below (TopEnds a gone) = refl
-tops_idle before after top tops below (GivesFunction f references few) = refl
-tops_idle before after top tops below (GivesReference o references) = refl
-tops_idle before after top tops below (BeginsDeath o references) = refl
 tops_idle before after top tops below (TopGoesOn a b c held) = ap (λ cs. cs ++ flat_map commands_on below) (continues_idle before after a b c)
 tops_idle before after top tops below (GivesReferences a b references few c held) = ap (λ cs. cs ++ flat_map commands_on below) (continues_idle before after a b c)
+tops_idle before after top tops below other = refl
 
 changes_origin : (script : Script) (before after : List Object) (top : Activity) (tops below now : List Activity) (lines : List Event)
     → Tops before after top tops → HasChanged top now lines before after → AreOfScript script before (top ∷ below) → AreOfScript script after (tops ++ below)

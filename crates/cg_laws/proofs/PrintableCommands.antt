@@ -21,9 +21,9 @@ use Rattle.cg_machine.specs.declared.event.Event.{Event}
 use Rattle.cg_machine.specs.declared.event.Event.TheVariants.{Made, Value}
 use Rattle.cg_machine.specs.World.{World, Frame, Numbers, with_change}
 use Rattle.cg_machine.specs.Operands.{frame_on, is_dict, self_in, value_of, weak_in}
-use Rattle.cg_machine.specs.Effects.{Effect, Changes, Calls, Collects, Explains, Quits, bound, with_new, frozen, may_track, replaced, tracked_by, unfrozen}
+use Rattle.cg_machine.specs.Effects.{Effect, Changes, bound, with_new, frozen, may_track, replaced, tracked_by, unfrozen}
 use Rattle.cg_machine.specs.Lines.{IsPrintable}
-use Rattle.cg_represents.proofs.Shapes.{IsAtHand, NoneThere, Word, ValueIn, KeyIn, ReferentOf, TellsNumbers, Shape, Binds, Makes, Edits, Puts, Shows, Tells, Stays, Sets, Freezes, Unfreezes, StartsFrame, StartsCollection, Ends, Inspects, AsksWhy}
+use Rattle.cg_represents.proofs.Shapes.{IsAtHand, Word, ValueIn, KeyIn, TellsNumbers, Shape, Binds, Makes, Edits, Puts, Shows, Tells, Stays, Sets, Freezes, Unfreezes, Inspects}
 use Rattle.cg_represents.proofs.Lists.{slice_get_member, set_member}
 use Rattle.cg_laws.proofs.PrintableTexts.{HasText, EntryHasTexts, HaveTexts, WorldHasTexts, KeepsTexts, NamesTexts, text_printable, entries_put, entries_texts, mapped_texts, changed_texts}
 use Rattle.cg_laws.proofs.PrintableSteps.{Prints, silent, says}
@@ -32,10 +32,7 @@ use Rattle.cg_represents.proofs.Inspecting.{TellsThere}
 module _ (texts : List (List ℕ)) (short : All (λ text. length text ≤ 1024) texts) (w : World) (known : WorldHasTexts (length texts) w) where
   abbrev pub EffectPrints : Effect → Type 0
   EffectPrints (Changes wants_memory lines given_up after) = Prints texts lines after
-  EffectPrints (Calls f) = Unit {0}
-  EffectPrints (Collects g) = Unit {0}
-  EffectPrints (Explains o) = Unit {0}
-  EffectPrints Quits = Unit {0}
+  EffectPrints effect = Unit {0}
 
   -- a value with its text
   abbrev IsKnown : Val → Type 0
@@ -46,13 +43,6 @@ module _ (texts : List (List ℕ)) (short : All (λ text. length text ≤ 1024) 
 
   none_known : (v : Val) → None ≡ Some v → IsKnown v
   none_known v e = absurd (let no : None ≡ Some v = e in cc)
-
-  name_known : (x : ℕ) (v : Val) → option_and_then (λ v. v) (slice_get w.names x) ≡ Some v → IsKnown v
-  name_known x v e = go (slice_get w.names x) refl e
-    where
-      go : (m : Option (Option Val)) → slice_get w.names x ≡ m → option_and_then (λ v. v) m ≡ Some v → IsKnown v
-      go None at k = none_known v k
-      go (Some m) at k = known.names v (slice_get_member w.names x (Some v) (subst (λ (q : Option Val). slice_get w.names x ≡ Some q) k at))
 
   local_known : (m : Option ℕ) (v : Val) → option_map Ref m ≡ Some v → IsKnown v
   local_known None v e = none_known v e
@@ -80,7 +70,11 @@ module _ (texts : List (List ℕ)) (short : All (λ text. length text ≤ 1024) 
   operand_known NoneWord v h e = same_known Nothing v e tt
   operand_known (IntWord n) v h e = same_known (Int n) v e tt
   operand_known (StrWord s) v h e = same_known (Str s) v e (h s (inl refl))
-  operand_known (Name x) v h e = name_known x v e
+  operand_known (Name x) v h e = go (slice_get w.names x) refl e
+    where
+      go : (m : Option (Option Val)) → slice_get w.names x ≡ m → option_and_then (λ v. v) m ≡ Some v → IsKnown v
+      go None at k = none_known v k
+      go (Some m) at k = known.names v (slice_get_member w.names x (Some v) (subst (λ (q : Option Val). slice_get w.names x ≡ Some q) k at))
   operand_known SelfLocal v h e = local_known (option_and_then (λ f. self_in f.sort f.subject) (frame_on w.stack)) v e
   operand_known WeakLocal v h e = local_known (option_and_then (λ f. weak_in f.sort f.subject) (frame_on w.stack)) v e
   operand_known (Cell i) v h e = cell_known (frame_on w.stack) i v e
@@ -88,11 +82,10 @@ module _ (texts : List (List ℕ)) (short : All (λ text. length text ≤ 1024) 
 
   -- What is at hand has a known text.
   hand_known : (command : Command) → NamesTexts (length texts) command → (v : Val) → IsAtHand w command v → IsKnown v
-  hand_known command named v NoneThere = tt
   hand_known command named v (Word operand u own e) = operand_known operand u (λ t m. named t (own operand_texts t m)) e
   hand_known command named v (ValueIn x e m h k) = (known.objects x m e k).val
   hand_known command named v (KeyIn x e m h k) = (known.objects x m e k).key
-  hand_known command named v (ReferentOf x r m h e) = tt
+  hand_known command named v other = tt
 
   abbrev HasItsTexts : Object → Type 0
   HasItsTexts x = HaveTexts (length texts) x.entries
@@ -160,8 +153,5 @@ module _ (texts : List (List ℕ)) (short : All (λ text. length text ≤ 1024) 
   shape_prints command named e (Sets numbers own keeps) = stays numbers
   shape_prints command named e (Freezes is) = places_print frozen _
   shape_prints command named e (Unfreezes is) = places_print unfrozen _
-  shape_prints command named e (StartsFrame f h) = tt
-  shape_prints command named e (StartsCollection g low) = tt
-  shape_prints command named e Ends = tt
   shape_prints command named e (Inspects lines calm there) = record { lines = λ line m. there_printable line (there line m); known = known }
-  shape_prints command named e (AsksWhy x h calm) = tt
+  shape_prints command named e shape = tt

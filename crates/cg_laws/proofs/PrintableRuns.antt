@@ -1,5 +1,5 @@
 -- In a run of a script that uses only its own texts, each of them short, every line can be printed.
-use Rattle.std.proofs.Common.{◌≡◌, sym, refl, subst, ℕ, ◌≤◌, inl, List, [], ◌∷◌, length, Some, None, true, false}
+use Rattle.std.proofs.Common.{◌≡◌, sym, refl, subst, ℕ, ◌≤◌, inl, List, [], ◌∷◌, length, Some, None, true}
 use Rattle.std.specs.Prelude.{flat_map}
 use Rattle.std.specs.List.{All}
 use Rattle.cg_script.specs.declared.Script.{Script}
@@ -47,12 +47,10 @@ module _ (script : Script) (known : TextsAreKnown script) (short : All (λ text.
 
   last_prints : (w : World) (a : Activity) (lines : List Event) (after : World) → AreLast w a lines → WorldHasTexts (length script.names) after → Prints script.names lines after
   last_prints w (TopLevel []) lines after e h = subst (λ (ls : List Event). Prints script.names ls after) (sym e) (says script.names End after tt h)
-  last_prints w (TopLevel (command ∷ commands)) lines after e h = absurd e
   last_prints w (ShuttingDown true) lines after e h = subst (λ (ls : List Event). Prints script.names ls after) (sym e) (record {
     lines = λ line m. either m (λ i. subst (IsPrintable script.names) i tt) (λ n. either n (λ i. subst (IsPrintable script.names) i tt) (λ no. absurd no));
     known = h;
   })
-  last_prints w (ShuttingDown false) lines after e h = absurd e
   last_prints w a lines after e h = absurd e
 
   taken_names : (command : Command) (a b : Activity) (below : List Activity) → Takes command a b → ((c : Command) → Includes (flat_map commands_on (a ∷ below))

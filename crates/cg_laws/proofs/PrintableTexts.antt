@@ -1,34 +1,32 @@
 -- Values whose strings are among the first texts of a script: what lists of entries, names and objects keep of that, and
 -- what the commands of a script name.
 use Rattle.std.proofs.Common.{◌≡◌, refl, sym, subst, ℕ, zero, suc, ◌<◌, ◌≤◌, Bool, true, false, inl, inr, List, [], ◌∷◌, ◌++◌, map, length, replicate, Option, Some, None}
-use Rattle.std.specs.Prelude.{◌==◌, if◌then◌else◌, flat_map, slice_set, remove, option_map, unwrap_or}
+use Rattle.std.specs.Prelude.{◌==◌, if◌then◌else◌, flat_map, option_map, unwrap_or}
 use Rattle.std.specs.List.{All}
 use Rattle.std.proofs.lemmas.List.Elements.{All-get_or, All-head, All-tail}
 use Rattle.std.proofs.lemmas.Option.{unwrap_or-slice_get}
 use Rattle.cg_value.specs.declared.Entry.{Entry}
 use Rattle.cg_value.specs.declared.Val.{Val}
-use Rattle.cg_value.specs.declared.Val.TheVariants.{None as Nothing, Int, Str, Ref}
+use Rattle.cg_value.specs.declared.Val.TheVariants.{Str}
 use Rattle.cg_script.specs.declared.Script.{Script}
 use Rattle.cg_script.specs.declared.Item.{Item}
-use Rattle.cg_script.specs.declared.Item.TheVariants.{Profile, Shutdown, Budget, Class, Def, Run}
+use Rattle.cg_script.specs.declared.Item.TheVariants.{Class, Def, Run}
 use Rattle.cg_script.specs.declared.Command.{Command}
 use Rattle.cg_script.specs.Texts.{command_texts, item_texts, TextsAreKnown}
 use Rattle.cg_graph.specs.Member.{Includes}
-use Rattle.cg_graph.specs.Value.{item, same_value, value_at, put, without_key}
+use Rattle.cg_graph.specs.Value.{item, same_value, put}
 use Rattle.cg_graph.specs.Object.{Object, change, object_at, entries_of}
 use Rattle.cg_graph.proofs.Members.{either, Includes-append_left, Includes-append_right, Includes-append_cases, Includes-map_cases}
 use Rattle.cg_machine.specs.Program.{commands_of, procedures}
 use Rattle.cg_machine.specs.World.{World}
 use Rattle.cg_machine.specs.Lines.{IsPrintableValue}
 use Rattle.cg_laws.specs.Origins.{all_commands}
-use Rattle.cg_represents.proofs.Lists.{found_at, removed_member, set_member}
+use Rattle.cg_represents.proofs.Lists.{found_at}
 
 -- a string of a value is one of the first n texts
 abbrev pub HasText : ℕ → Val → Type 0
-HasText n Nothing = Unit {0}
-HasText n (Int i) = Unit {0}
 HasText n (Str s) = s < n
-HasText n (Ref o) = Unit {0}
+HasText n v = Unit {0}
 
 -- so are the key and the value of an entry
 pub record EntryHasTexts (n : ℕ) (e : Entry) : Type 0 where
@@ -65,10 +63,8 @@ all_member P (y ∷ xs) x h (inr m) = all_member P xs x (All-tail P y xs h) m
 
 -- If each text is short, such a value can be printed.
 pub text_printable : (texts : List (List ℕ)) → All (λ text. length text ≤ 1024) texts → (v : Val) → HasText (length texts) v → IsPrintableValue texts v
-text_printable texts short Nothing h = tt
-text_printable texts short (Int i) h = tt
 text_printable texts short (Str s) h = (h, subst (λ text. length text ≤ 1024) (sym (unwrap_or-slice_get texts s [])) (All-get_or (λ text. length text ≤ 1024) texts s [] h short))
-text_printable texts short (Ref o) h = tt
+text_printable texts short v h = tt
 
 module _ (n : ℕ) where
   pub item_texts_of : (v : Val) → HasText n v → EntryHasTexts n (item v)
@@ -77,15 +73,6 @@ module _ (n : ℕ) where
   pub entries_item : (entries : List Entry) (v : Val) → HaveTexts n entries → HasText n v → HaveTexts n (entries ++ item v ∷ [])
   entries_item entries v h k e m = either (Includes-append_cases entries (item v ∷ []) e m) (h e) (λ l. either l (λ i. subst (EntryHasTexts n) i (item_texts_of v k)) (λ none. absurd none))
 
-  pub entries_items : (vs : List Val) → ((v : Val) → Includes vs v → HasText n v) → HaveTexts n (map item vs)
-  entries_items vs h e m = let v = Includes-map_cases item vs e m in subst (EntryHasTexts n) v.2 (item_texts_of v.0 (h v.0 v.1))
-
-  pub entries_set : (entries : List Entry) (i : ℕ) (v : Val) → HaveTexts n entries → HasText n v → HaveTexts n (slice_set entries i (item v))
-  entries_set entries i v h k e m = either (set_member entries i (item v) e m) (h e) (λ same. subst (EntryHasTexts n) same (item_texts_of v k))
-
-  pub entries_removed : (entries : List Entry) (i : ℕ) → HaveTexts n entries → HaveTexts n (remove entries i)
-  entries_removed entries i h e m = h e (removed_member entries i e m)
-
   pub entries_put : (entries : List Entry) (key v : Val) → HaveTexts n entries → HasText n key → HasText n v → HaveTexts n (put entries key v)
   entries_put [] key v h hk hv = λ e m. either m (λ same. subst (EntryHasTexts n) same (record { key = hk; val = hv })) (λ none. absurd none)
   entries_put (x ∷ entries) key v h hk hv = go (same_value x.key key) (entries_put entries key v (λ e m. h e (inr m)) hk hv)
@@ -93,22 +80,6 @@ module _ (n : ℕ) where
       go : (b : Bool) → HaveTexts n (put entries key v) → HaveTexts n (if b then record { key = x.key; val = v } ∷ entries else x ∷ put entries key v)
       go true rest e m = either m (λ same. subst (EntryHasTexts n) same (record { key = (h x (inl refl)).key; val = hv })) (λ k. h e (inr k))
       go false rest e m = either m (λ same. h e (inl same)) (rest e)
-
-  pub entries_without : (entries : List Entry) (key : Val) → HaveTexts n entries → HaveTexts n (without_key entries key)
-  entries_without [] key h = h
-  entries_without (x ∷ entries) key h = go (same_value x.key key) (entries_without entries key (λ e m. h e (inr m)))
-    where
-      go : (b : Bool) → HaveTexts n (without_key entries key) → HaveTexts n (if b then entries else x ∷ without_key entries key)
-      go true rest e m = h e (inr m)
-      go false rest e m = either m (λ same. h e (inl same)) (rest e)
-
-  pub value_text_at : (entries : List Entry) (key v : Val) → value_at entries key ≡ Some v → HaveTexts n entries → HasText n v
-  value_text_at [] key v e h = absurd (let no : None ≡ Some v = e in cc)
-  value_text_at (x ∷ entries) key v e h = go (same_value x.key key) e (λ k. value_text_at entries key v k (λ y m. h y (inr m)))
-    where
-      go : (b : Bool) → (if b then Some x.val else value_at entries key) ≡ Some v → (value_at entries key ≡ Some v → HasText n v) → HasText n v
-      go true k ih = let same : x.val ≡ v = cc in subst (HasText n) same (h x (inl refl)).val
-      go false k ih = ih k
 
   pub entries_texts : (objects : List Object) (o : ℕ) → ObjectsHaveTexts n objects → HaveTexts n (entries_of objects o)
   entries_texts objects o h = go (object_at objects o) refl
@@ -138,24 +109,20 @@ module _ (n : ℕ) where
 -- The texts of each command of a script are among those of its items.
 outside_text : (items : List Item) (command : Command) (t : ℕ) → Includes (commands_of items) command → Includes (command_texts command) t → Includes (flat_map item_texts items) t
 outside_text [] command t m k = absurd m
-outside_text (Profile n ∷ items) command t m k = outside_text items command t m k
-outside_text (Shutdown ∷ items) command t m k = outside_text items command t m k
-outside_text (Budget b ∷ items) command t m k = outside_text items command t m k
 outside_text (Class c ∷ items) command t m k = inr (outside_text items command t m k)
 outside_text (Def p ∷ items) command t m k = Includes-append_right (item_texts (Def p)) (flat_map item_texts items) t (outside_text items command t m k)
 outside_text (Run c ∷ items) command t (inl e) k = Includes-append_left (command_texts c) (flat_map item_texts items) t (subst (λ (q : Command). Includes (command_texts q) t) (sym e) k)
 outside_text (Run c ∷ items) command t (inr m) k = Includes-append_right (command_texts c) (flat_map item_texts items) t (outside_text items command t m k)
+outside_text (other ∷ items) command t m k = outside_text items command t m k
 
 body_text : (items : List Item) (command : Command) (t : ℕ) → Includes (flat_map (λ p. p.body) (procedures items)) command → Includes (command_texts command) t → Includes (flat_map item_texts items) t
 body_text [] command t m k = absurd m
-body_text (Profile n ∷ items) command t m k = body_text items command t m k
-body_text (Shutdown ∷ items) command t m k = body_text items command t m k
-body_text (Budget b ∷ items) command t m k = body_text items command t m k
 body_text (Class c ∷ items) command t m k = inr (body_text items command t m k)
 body_text (Def p ∷ items) command t m k = either (Includes-append_cases p.body (flat_map (λ q. q.body) (procedures items)) command m)
     (λ l. Includes-append_left (item_texts (Def p)) (flat_map item_texts items) t (inr (flat_member command_texts p.body command t l k)))
     (λ l. Includes-append_right (item_texts (Def p)) (flat_map item_texts items) t (body_text items command t l k))
 body_text (Run c ∷ items) command t m k = Includes-append_right (command_texts c) (flat_map item_texts items) t (body_text items command t m k)
+body_text (other ∷ items) command t m k = body_text items command t m k
 
 -- a command names only texts below n
 abbrev pub NamesTexts : ℕ → Command → Type 0

@@ -1,7 +1,7 @@
 -- Releases, and frames that start and end, keep the invariant of dying objects.
-use Rattle.std.proofs.Common.{◌≡◌, ◌≢◌, refl, sym, ◌∙◌, subst, ℕ, ◌-◌, Bool, true, false, not, ◌&&◌, inl, inr, List, [], ◌∷◌, ◌++◌, Option, None}
+use Rattle.std.proofs.Common.{◌≡◌, ◌≢◌, refl, sym, ◌∙◌, subst, ℕ, ◌-◌, Bool, true, false, not, inl, inr, List, [], ◌∷◌, ◌++◌, Option, None}
 use Rattle.std.specs.Prelude.{◌==◌, if◌then◌else◌, flat_map, option_to_list}
-use Rattle.std.proofs.lemmas.Bool.{eqb-true, eq-eqb, and_parts}
+use Rattle.std.proofs.lemmas.Bool.{eqb-true, eq-eqb, and_parts, not-true}
 use Rattle.cg_value.specs.declared.Place.TheVariants.{Untracked}
 use Rattle.cg_script.specs.declared.Script.{Script}
 use Rattle.cg_graph.specs.Member.{Includes}
@@ -10,16 +10,16 @@ use Rattle.cg_graph.specs.Object.{Object, change, with_place, with_referent}
 use Rattle.cg_graph.specs.Holdings.{name_holdings, entry_holdings, graph_of}
 use Rattle.cg_graph.proofs.Members.{either, Includes-append_left, Includes-append_right, Includes-append_cases, Includes-map_cases}
 use Rattle.cg_machine.specs.declared.event.FrameSort.{FrameSort}
-use Rattle.cg_machine.specs.declared.event.FrameSort.TheVariants.{Del, Legacy, Callback, Call}
+use Rattle.cg_machine.specs.declared.event.FrameSort.TheVariants.{Call}
 use Rattle.cg_machine.specs.declared.event.FrameSpec.{FrameSpec}
-use Rattle.cg_machine.specs.declared.event.Event.TheVariants.{Enter, BudgetSpent}
 use Rattle.cg_machine.specs.Program.{body_of}
-use Rattle.cg_machine.specs.World.{World, Activity, Framed, Releasing, Dying, Death, Frame, Finalizer, BudgetIsSpent, push, with_stack}
+use Rattle.cg_machine.specs.World.{World, Activity, Framed, Releasing, Dying, Death, Frame, Finalizer, BudgetIsSpent, with_stack}
 use Rattle.cg_machine.specs.Holdings.{holds, holdings, call_holds, in_degree, is_dying}
-use Rattle.cg_machine.specs.Frame.{Transition, start_frame, frame_end, gives_up_function, begin_death, released}
+use Rattle.cg_machine.specs.Frame.{start_frame, frame_end, gives_up_function, begin_death, released}
 use Rattle.cg_represents.proofs.Lists.{absent, no_times, entry_held}
-use Rattle.cg_laws.proofs.Unreferred.{IsQuiet, Unheld, Forgotten, Mortal, AreReferred, IsLater, Alters, alters_refl, change_alters, map_quiet, still_forgotten, referred_after}
+use Rattle.cg_laws.proofs.Unreferred.{IsQuiet, Unheld, Forgotten, Mortal, AreReferred, IsLater, Alters, alters_refl, change_alters, map_quiet, still_forgotten, referred_after, lost_later}
 use Rattle.cg_laws.proofs.Unheld.{IsLocalHeld, AreOver, AreResting, Calm, Keeps, resting_stack, resting_after, altered_keeps, same_objects, popped_free, pushed_free, turned_free}
+use Rattle.cg_laws.proofs.Starting.{release_either, starts_either}
 
 pub entry_holder : (objects : List Object) (o : ℕ) → Includes (entry_holdings (graph_of objects)) o → (x : Object) × Includes objects x × Includes (references x.entries) o
 entry_holder [] o m = absurd m
@@ -70,7 +70,7 @@ abbrev dead : Object → Object
 dead x = with_referent None (with_place Untracked x)
 
 dead_later : (x : Object) → IsLater x (dead x)
-dead_later x = record { serial = refl; code = refl; class = refl; referent = inr refl }
+dead_later x = lost_later
 
 dead_quiet : (o s : ℕ) (x : Object) → IsQuiet o x → IsQuiet o (if x.serial == s then dead x else x)
 dead_quiet o s x q = go (x.serial == s)
@@ -146,28 +146,37 @@ module _ (script : Script) (below : List Activity) (v : World) where
           then dead x else x) (dead_quiet d.object o) v.objects) (pushed_free (Dying (record { object = o; phase = Finalizer })) (Releasing references
           ∷ below) d.object (λ k. k)))
 
-not_true : (b : Bool) → not b ≡ true → b ≡ false
-not_true true e = sym e
-not_true false e = refl
-
 pub released_calm : (script : Script) (references : List ℕ) (below : List Activity) (v : World) → Calm script (with_stack (Releasing references ∷ below) v)
     → Calm script (released references below (with_stack (Releasing references ∷ below) v)).1
 released_calm script [] below v c = ends_calm script below v c
-released_calm script (o ∷ references) below v c = go (not (is_dying now o) && (in_degree now o == 0)) refl
+released_calm script (o ∷ references) below v c = release_either (λ lines. Calm script) o references below v
+    (λ e. let parts = and_parts (not (is_dying now o)) (in_degree now o == 0) e in
+    dies_calm script below v o references (not-true (is_dying now o) parts.0) (eqb-true (in_degree now o) 0 parts.1) (goes_on_calm script below v o references c))
+    (λ e. goes_on_calm script below v o references c)
   where
     now : World
     now = with_stack (Releasing references ∷ below) v
 
-    go : (b : Bool) → (not (is_dying now o) && (in_degree now o == 0)) ≡ b → (let t : Transition = if b then ([], begin_death o now) else ([], now) in Calm script t.1)
-    go true e =
-        let parts = and_parts (not (is_dying now o)) (in_degree now o == 0) e in
-        dies_calm script below v o references (not_true (is_dying now o) parts.0) (eqb-true (in_degree now o) 0 parts.1) (goes_on_calm script below v o references c)
-    go false e = goes_on_calm script below v o references c
-
 -- A frame starts over activities that rest.
 pub starts_calm : (script : Script) (spec : FrameSpec) (u : World) → AreReferred u.objects → AreOver u.stack → AreResting script u u.stack → IsLocalHeld spec.sort spec.subject u.stack
     → ((o : ℕ) → Mortal u.objects o → Forgotten u o → ¬ Includes (call_holds spec.sort spec.func) o) → Calm script (start_frame script spec u).1
-starts_calm script spec u referred over resting local held = go (u.budget == 0)
+starts_calm script spec u referred over resting local held = starts_either (λ lines. Calm script) script spec u
+    (record {
+      referred = referred;
+      over = over;
+      stack = resting_stack script spent u.stack (resting_after script u spent u.stack
+          (λ d m. same_objects script u spent d.object refl refl (λ k. k)) resting);
+    })
+    (λ some. record {
+      referred = referred;
+      over = (local, over);
+      stack = (
+        tt,
+        resting_after script u entered u.stack (λ d m. altered_keeps script u entered d.object (alters_refl u.objects)
+            (λ l f. still_forgotten u entered d.object refl (alters_refl u.objects) (λ q. q) (pushed_free frame u.stack d.object (held d.object l f)) f))
+            resting,
+      );
+    })
   where
     frame : Activity
     frame = Framed (record { sort = spec.sort; subject = spec.subject; function = spec.func; commands = body_of script spec.proc })
@@ -178,51 +187,25 @@ starts_calm script spec u referred over resting local held = go (u.budget == 0)
     entered : World
     entered = record u { budget = u.budget - 1; stack = frame ∷ u.stack }
 
-    go : (b : Bool) → (let t : Transition = if b then (BudgetSpent ∷ [], spent) else (Enter spec.sort spec.subject ∷ [], entered) in Calm script t.1)
-    go true = record {
-      referred = referred;
-      over = over;
-      stack = resting_stack script spent u.stack (resting_after script u spent u.stack
-          (λ d m. same_objects script u spent d.object refl refl (λ k. k)) resting);
-    }
-    go false = record {
-      referred = referred;
-      over = (local, over);
-      stack = (
-        tt,
-        resting_after script u entered u.stack (λ d m. altered_keeps script u entered d.object (alters_refl u.objects)
-            (λ l f. still_forgotten u entered d.object refl (alters_refl u.objects) (λ q. q) (pushed_free frame u.stack d.object (held d.object l f)) f))
-            resting,
-      );
-    }
-
 pub frame_end_calm : (script : Script) (f : Frame) (below : List Activity) (v : World) → Calm script (with_stack (Framed f ∷ below) v) → Calm script (frame_end f (with_stack below v)).1
 frame_end_calm script f below v c = by_sort f.sort f.function (λ o k. k)
   where
-    popped : Calm script (with_stack below v)
-    popped = record {
+    by_sort : (sort : FrameSort) (function : Option ℕ) → ((o : ℕ) → ¬ Includes (call_holds f.sort f.function) o → ¬ Includes (call_holds sort function) o)
+        → Calm script (gives_up_function sort function (with_stack below v))
+    by_sort Call function free = record {
+      referred = c.referred;
+      over = (tt, c.over.1);
+      stack = (
+        tt,
+        resting_after script (with_stack (Framed f ∷ below) v) (with_stack (Releasing (option_to_list function) ∷ below) v) below
+            (λ d m. same_objects script (with_stack (Framed f ∷ below) v) (with_stack (Releasing (option_to_list function) ∷ below) v) d.object refl refl
+            (turned_free (Framed f) (Releasing (option_to_list function)) below d.object (free d.object))) c.stack.1,
+      );
+    }
+    by_sort sort function free = record {
       referred = c.referred;
       over = c.over.1;
       stack = resting_stack script (with_stack below v) below (resting_after script (with_stack (Framed f ∷ below) v) (with_stack below v) below
           (λ d m. same_objects script (with_stack (Framed f ∷ below) v) (with_stack below v) d.object refl refl (popped_free (Framed f) below d.object))
           c.stack.1);
     }
-
-    gives_up : (references : List ℕ) → ((o : ℕ) → ¬ Includes (call_holds f.sort f.function) o → ¬ Includes references o) → Calm script (push (Releasing references) (with_stack below v))
-    gives_up references free = record {
-      referred = c.referred;
-      over = (tt, c.over.1);
-      stack = (
-        tt,
-        resting_after script (with_stack (Framed f ∷ below) v) (with_stack (Releasing references ∷ below) v) below
-            (λ d m. same_objects script (with_stack (Framed f ∷ below) v) (with_stack (Releasing references ∷ below) v) d.object refl refl
-            (turned_free (Framed f) (Releasing references) below d.object (free d.object))) c.stack.1,
-      );
-    }
-
-    by_sort : (sort : FrameSort) (function : Option ℕ) → ((o : ℕ) → ¬ Includes (call_holds f.sort f.function) o → ¬ Includes (call_holds sort function) o)
-        → Calm script (gives_up_function sort function (with_stack below v))
-    by_sort Del function free = popped
-    by_sort Legacy function free = popped
-    by_sort Callback function free = popped
-    by_sort Call function free = gives_up (option_to_list function) free

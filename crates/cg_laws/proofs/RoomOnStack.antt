@@ -4,11 +4,11 @@ use Rattle.cg_script.specs.declared.Script.{Script}
 use Rattle.cg_graph.specs.Object.{Object}
 use Rattle.cg_machine.specs.declared.event.Event.{Event}
 use Rattle.cg_machine.specs.declared.event.FrameSpec.{FrameSpec}
-use Rattle.cg_machine.specs.World.{World, Activity, TopLevel, Framed, Releasing, Dying, Collecting, ShuttingDown}
+use Rattle.cg_machine.specs.World.{World, Activity, Releasing, Dying}
 use Rattle.cg_machine.specs.Frame.{start_frame}
 use Rattle.cg_laws.specs.Bounds.{is_frame, HasNoRelease, AreReleasesApart}
 use Rattle.cg_laws.proofs.Sums.{tally, bit}
-use Rattle.cg_laws.proofs.Advances.{Advance, Plainly, WithFrame, Continues, DeathGoesOn, DeathClears, CollectionGoesOn, Tops, TopEnds, GivesFunction, GivesReference, BeginsDeath, TopGoesOn, GivesReferences}
+use Rattle.cg_laws.proofs.Advances.{Advance, Plainly, WithFrame, Continues, DeathGoesOn, Tops, TopEnds, GivesFunction, TopGoesOn, GivesReferences}
 use Rattle.cg_laws.proofs.Starting.{starts_either}
 use Rattle.cg_laws.proofs.Invariants.{on}
 
@@ -35,25 +35,20 @@ starts_room b script spec u none h = starts_either (λ lines. HasRoom b) script 
 continues_room : (b budget : ℕ) (before after : List Object) (top a : Activity) (below : List Activity) → Continues before after top a
     → Room b budget (top ∷ below) → Room b budget (a ∷ below) × HasNoRelease (a ∷ below)
 continues_room b budget before after top a below (DeathGoesOn o phase next waits none) h = (record { frames = omega (arith, h.frames); apart = h.apart }, tt)
-continues_room b budget before after top a below (DeathClears o weak waiting weaks t first lost) h = (record { frames = omega (arith, h.frames); apart = h.apart }, tt)
-continues_room b budget before after top a below (CollectionGoesOn c d same begun early) h = (record { frames = omega (arith, h.frames); apart = h.apart }, tt)
+continues_room b budget before after top a below other h = (record { frames = omega (arith, h.frames); apart = h.apart }, tt)
 
 popped : (top : Activity) (below : List Activity) → AreReleasesApart (top ∷ below) → AreReleasesApart below
-popped (TopLevel commands) below h = h.1
-popped (Framed f) below h = h.1
 popped (Releasing references) below h = h.2
 popped (Dying d) below h = h
-popped (Collecting c) below h = h.1
-popped (ShuttingDown started) below h = h.1
+popped a below h = h.1
 
 tops_room : (b budget : ℕ) (before after : List Object) (top : Activity) (tops below : List Activity) → Tops before after top tops → Room b budget (top ∷ below) → Room b budget (tops ++ below)
 tops_room b budget before after top tops below (TopEnds a gone) h = record { frames = omega (arith, h.frames); apart = popped a below h.apart }
 tops_room b budget before after top tops below (GivesFunction f references few) h = record { frames = omega (arith, h.frames); apart = (omega (arith, few), h.apart.0, h.apart.1) }
-tops_room b budget before after top tops below (GivesReference o references) h = record { frames = omega (arith, h.frames); apart = (omega (arith, h.apart.0), h.apart.1, h.apart.2) }
-tops_room b budget before after top tops below (BeginsDeath o references) h = record { frames = omega (arith, h.frames); apart = (omega (arith, h.apart.0), h.apart.1, h.apart.2) }
 tops_room b budget before after top tops below (TopGoesOn t a c held) h = (continues_room b budget before after t a below c h).0
 tops_room b budget before after top tops below (GivesReferences t a references few c held) h = let k = continues_room b budget before after t a below c h
     in record { frames = omega (arith, k.0.frames); apart = (few, k.1, k.0.apart) }
+tops_room b budget before after top tops below other h = record { frames = omega (arith, h.frames); apart = (omega (arith, h.apart.0), h.apart.1, h.apart.2) }
 
 pub advance_room : (b : ℕ) (script : Script) (top : Activity) (below : List Activity) (v : World) (lines : List Event) (after : World)
     → Advance script v top below lines after → HasRoom b (on top below v) → HasRoom b after

@@ -5,7 +5,7 @@ use Rattle.cg_script.specs.declared.Script.{Script}
 use Rattle.cg_graph.specs.Object.{Object}
 use Rattle.cg_graph.proofs.Members.{either}
 use Rattle.cg_machine.specs.declared.event.Event.{Event}
-use Rattle.cg_machine.specs.World.{World, Activity, TopLevel, Framed, Releasing, Dying, Collecting, opening, ShuttingDown}
+use Rattle.cg_machine.specs.World.{World, Activity, Collecting, opening}
 use Rattle.cg_machine.specs.Holdings.{is_collection}
 use Rattle.cg_machine.specs.Run.{Step, StepTaken, StepOf, Run, last_world}
 use Rattle.cg_laws.specs.Laws.{IsOfCollection}
@@ -47,13 +47,9 @@ module _ (script : Script) (budget : ℕ) where
   step_keeps : (w : World) (stack : List Activity) (events : List Event) (after : World) → w.stack ≡ stack → Step script w events after → Sound w
       → Calm script w → HasOrder w → IsLawful script budget w → IsApart w → IsApart after
   step_keeps w [] events after top step sound calm order lawful h = absurd (subst (λ st. StepOf script w st events after) top step.step)
-  step_keeps w (TopLevel commands ∷ below) events after top step sound calm order lawful h = other_apart script w (TopLevel commands) below events after top refl step sound calm order h
-  step_keeps w (Framed f ∷ below) events after top step sound calm order lawful h = other_apart script w (Framed f) below events after top refl step sound calm order h
-  step_keeps w (Releasing references ∷ below) events after top step sound calm order lawful h = other_apart script w (Releasing references) below events after top refl step sound calm order h
-  step_keeps w (Dying d ∷ below) events after top step sound calm order lawful h = other_apart script w (Dying d) below events after top refl step sound calm order h
-  step_keeps w (ShuttingDown started ∷ below) events after top step sound calm order lawful h = other_apart script w (ShuttingDown started) below events after top refl step sound calm order h
   step_keeps w (Collecting c ∷ below) events after top step sound calm order lawful h = collect_apart script budget w c below events after top lawful h
       (subst (λ st. StepOf script w st events after) top step.step)
+  step_keeps w (a ∷ below) events after top step sound calm order lawful h = other_apart script w a below events after top refl step sound calm order h
 
   apart_after : (w : World) (steps : List StepTaken) → Sound w → Calm script w → HasOrder w → StaysLawful script budget w → IsApart w → Run script w steps → IsApart (last_world w steps)
   apart_after w [] sound calm order lawful h run = h

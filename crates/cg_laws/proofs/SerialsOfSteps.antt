@@ -10,7 +10,7 @@ use Rattle.cg_machine.specs.Program.{body_of}
 use Rattle.cg_machine.specs.Frame.{start_frame}
 use Rattle.cg_laws.specs.Origins.{commands_on}
 use Rattle.cg_laws.proofs.Sums.{tally}
-use Rattle.cg_laws.proofs.Advances.{Advance, Plainly, WithFrame, Continues, continues_idle, Tops, TopEnds, GivesFunction, GivesReference, BeginsDeath, TopGoesOn, GivesReferences}
+use Rattle.cg_laws.proofs.Advances.{Advance, Plainly, WithFrame, Continues, continues_idle, Tops, TopGoesOn, GivesReferences}
 use Rattle.cg_laws.proofs.Starting.{starts_either}
 use Rattle.cg_laws.proofs.Invariants.{on}
 
@@ -40,12 +40,9 @@ idle : (before after : List Object) (a b : Activity) → Continues before after 
 idle before after a b c = ap length (continues_idle before after a b c)
 
 pub tops_bring_none : (before after : List Object) (top : Activity) (tops below : List Activity) → Tops before after top tops → left_on (tops ++ below) ≡ left_on below
-tops_bring_none before after top tops below (TopEnds a gone) = omega arith
-tops_bring_none before after top tops below (GivesFunction f references few) = omega arith
-tops_bring_none before after top tops below (GivesReference o references) = omega arith
-tops_bring_none before after top tops below (BeginsDeath o references) = omega arith
 tops_bring_none before after top tops below (TopGoesOn a b c held) = omega (arith, idle before after a b c)
 tops_bring_none before after top tops below (GivesReferences a b references few c held) = omega (arith, idle before after a b c)
+tops_bring_none before after top tops below other = omega arith
 
 pub advance_makes : (most b : ℕ) (script : Script) (top : Activity) (below : List Activity) (v : World) → ((p : ℕ) → length (body_of script p) ≤ most)
     → (lines : List Event) (after : World) → Advance script v top below lines after → IsFew most b (on top below v) → IsFew most b after

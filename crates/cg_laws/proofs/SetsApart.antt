@@ -5,7 +5,7 @@ use Rattle.std.specs.Prelude.{◌==◌, if◌then◌else◌, count_by, option_ma
 use Rattle.std.specs.List.{list_any}
 use Rattle.std.proofs.lemmas.List.Sums.{sum_by-cons}
 use Rattle.cg_value.specs.declared.Place.{Place}
-use Rattle.cg_value.specs.declared.Place.TheVariants.{Untracked, Gen, Frozen, Cand, Seen, Back, Legacy, Pend}
+use Rattle.cg_value.specs.declared.Place.TheVariants.{Untracked, Gen, Frozen}
 use Rattle.cg_script.specs.declared.Script.{Script}
 use Rattle.cg_graph.specs.Member.{Includes}
 use Rattle.cg_graph.specs.Value.{references}
@@ -20,6 +20,7 @@ use Rattle.cg_laws.specs.Laws.{IsOfCollection}
 use Rattle.cg_machine.specs.Collect.{collection_at}
 use Rattle.cg_laws.specs.Apart.{StandsRightly, IsFound, IsGarbageList, handles, IsApart}
 use Rattle.cg_laws.proofs.Starting.{begun_frame, starts_either}
+use Rattle.cg_represents.proofs.Lists.{each_changed}
 
 -- the objects while a collection is at a phase
 pub record AreApart (objects : List Object) (phase : CollectPhase) : Type 0 where
@@ -129,11 +130,7 @@ pub found_apart : (p : Place) → IsFound p → IsOfCollection p
 found_apart Untracked k = k
 found_apart (Gen i) k = k
 found_apart Frozen k = k
-found_apart Cand k = tt
-found_apart Seen k = tt
-found_apart Back k = tt
-found_apart Legacy k = tt
-found_apart Pend k = tt
+found_apart p k = tt
 
 -- what is in a tracked place has an object
 pub is_tracked_at : (p : Place) (x : Object) → same_place Untracked p ≡ false → is_at p x ≡ true → x.place ≢ Untracked
@@ -150,33 +147,16 @@ pub changed : (f : Object → Object) (test : Object → Bool) (objects : List O
     → entries_of (map (λ x. if test x then f x else x) objects) 1 ≡ entries_of objects 1 → ¬ Includes (handles next) 1 → Moves f test objects phase next
     → AreApart objects phase → AreApart (map (λ x. if test x then f x else x) objects) next
 changed f test objects phase next serial code same unhandled moves h = record {
-  garbage = λ y m. let x = Includes-map_cases change_of objects y m in subst (λ (z : Object). z.serial ≡ 1 → IsGarbageList z) x.2 (garbage (test x.0) x.0 refl x.1);
-  rightly = λ y m. let x = Includes-map_cases change_of objects y m in subst (λ (z : Object). StandsRightly next z) x.2 (rightly (test x.0) x.0 refl x.1);
+  garbage = each_changed (λ z. z.serial ≡ 1 → IsGarbageList z) f test objects (λ x m t e.
+      let one : x.serial ≡ 1 = sym (serial x) ∙ e in
+      let was = h.garbage x m one in
+      record { list = code x ∙ was.list; untracked = moves.untracked x m t one was.untracked }) (λ x m t e. h.garbage x m e);
+  rightly = each_changed (StandsRightly next) f test objects (λ x m t. moves.chosen x m t (h.rightly x m)) (λ x m t. moves.others x m t (h.rightly x m));
   unhandled = unhandled;
-  unsaved = λ y m. let x = Includes-map_cases change_of objects y m in subst (λ (z : Object). IsFound z.place → ¬ Includes (references (entries_of after 1))
-      z.serial) x.2 (unsaved (test x.0) x.0 refl x.1);
+  unsaved = each_changed (λ z. IsFound z.place → ¬ Includes (references (entries_of (map (λ x. if test x then f x else x) objects) 1)) z.serial) f test objects
+      (λ x m t found k. moves.found x m t found (subst (Includes (references (entries_of objects 1))) (serial x) (subst (λ es. Includes (references es) (f x).serial) same k)))
+      (λ x m t found k. h.unsaved x m found (subst (λ es. Includes (references es) x.serial) same k));
 }
-  where
-    change_of : Object → Object
-    change_of x = if test x then f x else x
-
-    after : List Object
-    after = map change_of objects
-
-    garbage : (b : Bool) (x : Object) → test x ≡ b → Includes objects x → (if b then f x else x).serial ≡ 1 → IsGarbageList (if b then f x else x)
-    garbage true x t m e =
-        let one : x.serial ≡ 1 = sym (serial x) ∙ e in
-        let was = h.garbage x m one in
-        record { list = code x ∙ was.list; untracked = moves.untracked x m t one was.untracked }
-    garbage false x t m e = h.garbage x m e
-
-    rightly : (b : Bool) (x : Object) → test x ≡ b → Includes objects x → StandsRightly next (if b then f x else x)
-    rightly true x t m = moves.chosen x m t (h.rightly x m)
-    rightly false x t m = moves.others x m t (h.rightly x m)
-
-    unsaved : (b : Bool) (x : Object) → test x ≡ b → Includes objects x → IsFound (if b then f x else x).place → ¬ Includes (references (entries_of after 1)) (if b then f x else x).serial
-    unsaved true x t m found k = moves.found x m t found (subst (Includes (references (entries_of objects 1))) (serial x) (subst (λ es. Includes (references es) (f x).serial) same k))
-    unsaved false x t m found k = h.unsaved x m found (subst (λ es. Includes (references es) x.serial) same k)
 
 -- they change places, marks or referents
 pub moved : (f : Object → Object) (test : Object → Bool) (objects : List Object) (phase next : CollectPhase) → Keeps f → ¬ Includes (handles next) 1

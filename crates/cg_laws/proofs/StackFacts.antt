@@ -8,8 +8,8 @@ use Rattle.cg_graph.specs.Value.{references}
 use Rattle.cg_graph.specs.Object.{Object, serials}
 use Rattle.cg_graph.proofs.Members.{either, Includes-append_right, Includes-map_cases}
 use Rattle.cg_machine.specs.declared.event.FrameSort.{FrameSort}
-use Rattle.cg_machine.specs.declared.event.FrameSort.TheVariants.{Del, Legacy, Callback, Call}
-use Rattle.cg_machine.specs.World.{World, Activity, TopLevel, Framed, Releasing, Dying, Collecting, ShuttingDown, Death, DyingPhase, Finalizer, AfterFinalizer, Clearing, Calling, AfterCall, LegacyFinalizer, AfterLegacy, Detaching, Emptying}
+use Rattle.cg_machine.specs.declared.event.FrameSort.TheVariants.{Callback, Call}
+use Rattle.cg_machine.specs.World.{World, Activity, Framed, Dying, Death, DyingPhase, Clearing}
 use Rattle.cg_machine.specs.Holdings.{holds, call_holds}
 use Rattle.cg_machine.specs.Weak.{is_function, weak_references}
 use Rattle.cg_represents.specs.Orderly.{waits_of, all_waits}
@@ -35,10 +35,9 @@ pub record IsCalled (objects : List Object) (weak g : ℕ) (below : List Activit
   pub held : Includes (flat_map holds below) g ⊎ Includes (all_waits below) weak × HoldsIn objects weak g
 
 abbrev pub KnowsFunction : List Object → FrameSort → ℕ → Option ℕ → List Activity → Type 0
-KnowsFunction objects Del o function below = function ≡ None
-KnowsFunction objects Legacy o function below = function ≡ None
 KnowsFunction objects Callback o function below = (g : ℕ) × (function ≡ Some g) × IsCalled objects o g below
 KnowsFunction objects Call o function below = (function ≡ Some o) × AreFunctions objects o
+KnowsFunction objects sort o function below = function ≡ None
 
 -- waiting weak references are newer than those that still refer to the object
 abbrev pub AreNewer : List Object → ℕ → List ℕ → Type 0
@@ -72,8 +71,6 @@ module _ (w : World) (h : HasOrder w) where
   pub function_lives : (sort : FrameSort) (o : ℕ) (function : Option ℕ) (below : List Activity)
       → ((s : ℕ) → Includes (call_holds sort function ++ flat_map holds below) s → Includes (flat_map holds w.stack) s)
       → KnowsFunction w.objects sort o function below → (g : ℕ) → function ≡ Some g → AreFunctions w.objects g × Includes (serials w.objects) g
-  function_lives Del o function below held k g e = absurd (let no : None ≡ Some g = sym k ∙ e in cc)
-  function_lives Legacy o function below held k g e = absurd (let no : None ≡ Some g = sym k ∙ e in cc)
   function_lives Callback o function below held k g e =
       let same : Some k.0 ≡ Some g = sym k.1 ∙ e in
       let is : k.0 ≡ g = cc in (
@@ -86,18 +83,12 @@ module _ (w : World) (h : HasOrder w) where
         subst (AreFunctions w.objects) is k.1,
         h.stack_lives g (held g (subst (λ m. Includes (option_to_list m ++ flat_map holds below) g) (sym e) (inl refl))),
       )
+  function_lives sort o function below held k g e = absurd (let no : None ≡ Some g = sym k ∙ e in cc)
 
 -- nothing lies on a death that is clearing weak references
 pub rests_in_order : (script : Script) (w : World) (objects : List Object) (o : ℕ) (phase : DyingPhase) → Rests script w o phase → ClearsInOrder objects o phase
-rests_in_order script w objects o Finalizer h = tt
-rests_in_order script w objects o AfterFinalizer h = tt
 rests_in_order script w objects o (Clearing waiting) h = absurd h
-rests_in_order script w objects o (Calling waiting) h = tt
-rests_in_order script w objects o (AfterCall weak callback waiting) h = tt
-rests_in_order script w objects o LegacyFinalizer h = tt
-rests_in_order script w objects o AfterLegacy h = tt
-rests_in_order script w objects o Detaching h = tt
-rests_in_order script w objects o Emptying h = tt
+rests_in_order script w objects o phase h = tt
 
 -- A step keeps this of the activities below it.
 module _ (script : Script) (w : World) (a : Activity) (below : List Activity) (after : World) (top : w.stack ≡ a ∷ below)
@@ -113,8 +104,6 @@ module _ (script : Script) (w : World) (a : Activity) (below : List Activity) (a
   frame_kept : (sort : FrameSort) (o : ℕ) (function : Option ℕ) (under : List Activity) → ((s : ℕ) → Includes (call_holds sort function ++ flat_map holds under)
       s → Includes (flat_map holds w.stack) s) → ((s : ℕ) → Includes (all_waits under) s → Includes (all_waits below) s)
       → KnowsFunction w.objects sort o function under → KnowsFunction after.objects sort o function under
-  frame_kept Del o function under held waits k = k
-  frame_kept Legacy o function under held waits k = k
   frame_kept Callback o function under held waits k = (
     k.0,
     k.1,
@@ -124,16 +113,14 @@ module _ (script : Script) (w : World) (a : Activity) (below : List Activity) (a
     },
   )
   frame_kept Call o function under held waits k = (k.0, functions_kept o (function_lives w h Call o function under held k o k.0).1 k.1)
+  frame_kept sort o function under held waits k = k
 
   one_kept : (c : Activity) (under : List Activity) → ((s : ℕ) → Includes (flat_map holds (c ∷ under)) s → Includes (flat_map holds w.stack) s)
       → ((s : ℕ) → Includes (all_waits under) s → Includes (all_waits below) s)
       → ((d : Death) → c ≡ Dying d → Rests script w d.object d.phase) → IsKnown w.objects c under → IsKnown after.objects c under
-  one_kept (TopLevel commands) under held waits resting k = tt
   one_kept (Framed f) under held waits resting k = frame_kept f.sort f.subject f.function under held waits k
-  one_kept (Releasing references) under held waits resting k = tt
   one_kept (Dying d) under held waits resting k = rests_in_order script w after.objects d.object d.phase (resting d refl)
-  one_kept (Collecting c) under held waits resting k = tt
-  one_kept (ShuttingDown started) under held waits resting k = tt
+  one_kept a under held waits resting k = tt
 
   all_kept : (under : List Activity) → ((s : ℕ) → Includes (flat_map holds under) s → Includes (flat_map holds w.stack) s) → ((s : ℕ) → Includes (all_waits under) s → Includes (all_waits below) s)
       → AreResting script w under → AreKnown w.objects under → AreKnown after.objects under

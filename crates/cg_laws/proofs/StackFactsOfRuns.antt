@@ -8,7 +8,7 @@ use Rattle.cg_graph.specs.Object.{Object, serials}
 use Rattle.cg_graph.proofs.Members.{Includes-append_right, Includes-map_cases}
 use Rattle.cg_machine.specs.declared.event.Event.{Event}
 use Rattle.cg_machine.specs.declared.event.FrameSort.{FrameSort}
-use Rattle.cg_machine.specs.declared.event.FrameSort.TheVariants.{Del, Legacy, Callback, Call}
+use Rattle.cg_machine.specs.declared.event.FrameSort.TheVariants.{Call}
 use Rattle.cg_machine.specs.World.{World, Activity, TopLevel, Framed, Releasing, Dying, Collecting, Frame, Death, opening, ShuttingDown}
 use Rattle.cg_machine.specs.Holdings.{holds}
 use Rattle.cg_machine.specs.Frame.{procedure_of, start_frame}
@@ -146,10 +146,8 @@ module _ (script : Script) (budget : ℕ) (steps : List StepTaken) (run : Run sc
   called_subject : (sort : FrameSort) (o : ℕ) (function : Option ℕ) (below : List Activity) → KnowsFunction last.objects sort o function below
       → (sort ≢ Call → Includes (serials last.objects) o) → ((g : ℕ) → function ≡ Some g → Includes (serials last.objects) g) → Includes (serials last.objects)
       o
-  called_subject Del o function below k other lives = other (λ e. cc)
-  called_subject Legacy o function below k other lives = other (λ e. cc)
-  called_subject Callback o function below k other lives = other (λ e. cc)
   called_subject Call o function below k other lives = lives o k.0
+  called_subject sort o function below k other lives = other (λ e. cc)
 
   subject : (stack : List Activity) → AreKnown last.objects stack → (f : Frame) → Includes stack (Framed f)
       → (f.sort ≢ Call → Includes (serials last.objects) f.subject) → ((g : ℕ) → f.function ≡ Some g → Includes (serials last.objects) g)

@@ -22,7 +22,7 @@ use Rattle.cg_laws.proofs.MeasureInDeaths.{Includes-reverse, passed}
 use Rattle.cg_laws.proofs.Lookups.{Includes-reversed, callback_at, callback_first, same_object}
 use Rattle.cg_laws.proofs.HeldLives.{waits_held}
 use Rattle.cg_laws.proofs.HeldLivesDeaths.{HasOrder}
-use Rattle.cg_laws.proofs.Advances.{Advance, Plainly, WithFrame, HasChanged, changed_origin, ClearsNone, Continues, DeathGoesOn, DeathClears, CollectionGoesOn, FrameOf, OfFinalizer, OfLegacy, OfCallback, Tops, TopEnds, GivesFunction, GivesReference, BeginsDeath, TopGoesOn, GivesReferences}
+use Rattle.cg_laws.proofs.Advances.{Advance, Plainly, WithFrame, HasChanged, changed_origin, ClearsNone, Continues, DeathGoesOn, DeathClears, CollectionGoesOn, FrameOf, OfCallback, Tops, TopEnds, BeginsDeath, TopGoesOn, GivesReferences}
 use Rattle.cg_laws.proofs.Starting.{starts_either}
 use Rattle.cg_laws.proofs.Invariants.{on}
 use Rattle.cg_laws.proofs.StackFacts.{AreFunctions, HoldsIn, KnowsFunction, AreNewer, ClearsInOrder, IsKnown, AreKnown, IsAllKnown}
@@ -135,16 +135,13 @@ module _ (script : Script) (below : List Activity) (v : World) (rises : Rises 1 
 
   tops_known : (after : List Object) (top : Activity) (tops : List Activity) → Tops v.objects after top tops → IsKnown v.objects top below → AreKnown after below → AreKnown after (tops ++ below)
   tops_known after top tops (TopEnds a gone) k r = r
-  tops_known after top tops (GivesFunction f references few) k r = (tt, r)
-  tops_known after top tops (GivesReference o references) k r = (tt, r)
   tops_known after top tops (BeginsDeath o references) k r = (tt, (tt, r))
   tops_known after top tops (TopGoesOn b a c held) k r = continues_known after b a c k r
   tops_known after top tops (GivesReferences b a references few c held) k r = (tt, continues_known after b a c k r)
+  tops_known after top tops other k r = (tt, r)
 
   frame_known : (after : List Object) (top a : Activity) (spec : FrameSpec) → FrameOf script v.objects after top a spec → HasChanged top [] [] v.objects after
       → HasOrder (on top below v) → KnowsFunction after spec.sort spec.subject spec.func (a ∷ below)
-  frame_known after top a spec (OfFinalizer o p e marks) c h = refl
-  frame_known after top a spec (OfLegacy o p e) c h = refl
   frame_known after top a spec (OfCallback weak p waits held) c h = (
     called,
     refl,
@@ -168,6 +165,7 @@ module _ (script : Script) (below : List Activity) (v : World) (rises : Rises 1 
 
       waits_there : Includes (all_waits (top ∷ below)) weak
       waits_there = Includes-append_left (waits_of top) (all_waits below) weak waits
+  frame_known after top a spec other c h = refl
 
   pub advance_known : (top : Activity) (lines : List Event) (after : World) → Advance script v top below lines after → HasOrder (on top below v) → IsKnown v.objects top below → Stays below after
   advance_known top lines after (Plainly tops objects numbers ls t c n none) h k = tops_known objects top tops t k

@@ -9,8 +9,8 @@ use Rattle.cg_graph.specs.Object.{Object, serials}
 use Rattle.cg_graph.specs.Holdings.{name_holdings, occurrences, graph_of, entry_holdings}
 use Rattle.cg_graph.proofs.Members.{Includes-of, includes-of, Includes-append_right}
 use Rattle.cg_machine.specs.declared.event.FrameSort.{FrameSort}
-use Rattle.cg_machine.specs.declared.event.FrameSort.TheVariants.{Del, Legacy, Callback, Call}
-use Rattle.cg_machine.specs.World.{World, Activity, TopLevel, Framed, Releasing, Dying, Collecting, Death, DyingPhase, Clearing, Calling, AfterCall, CollectPhase, WeakClearing, WeakCalling, AfterCallback, AfterRelease, opening, ShuttingDown}
+use Rattle.cg_machine.specs.declared.event.FrameSort.TheVariants.{Call}
+use Rattle.cg_machine.specs.World.{World, Activity, TopLevel, Framed, Releasing, Dying, Collecting, Death, DyingPhase, Clearing, CollectPhase, WeakClearing, opening, ShuttingDown}
 use Rattle.cg_machine.specs.Holdings.{holds, call_holds, dying_holds, collect_holds, is_collection}
 use Rattle.cg_represents.specs.Orderly.{death_waits, collection_waits, all_waits, AreDeathsOfOthers, IsOrderly}
 use Rattle.cg_machine.specs.Run.{last_world}
@@ -21,9 +21,9 @@ use Rattle.cg_laws.proofs.InvariantOfRuns.{HasBottom, Sound, collections_in, ope
 use Rattle.cg_laws.proofs.Ending.{sound_after}
 use Rattle.cg_laws.proofs.HeldLives.{waits_held}
 use Rattle.cg_laws.proofs.HeldLivesRuns.{worlds_orderly}
-use Rattle.cg_laws.proofs.Advances.{few_option}
 use Rattle.cg_laws.proofs.RoomOnStack.{how_many, Room}
 use Rattle.cg_laws.proofs.RoomOnStackRuns.{runs_have_room}
+use Rattle.cg_laws.proofs.MeasureInDeaths.{list_one}
 
 -- the counts of the law, as sums
 counted : (sort : Activity → Bool) (stack : List Activity) → count_by sort stack ≡ how_many sort stack
@@ -98,43 +98,29 @@ is_over : (stack : List Activity) → HasBottom stack → IsOverTopLevel stack
 is_over [] h = absurd h
 is_over (TopLevel commands ∷ below) h = record { others = []; lowest = TopLevel commands; is = refl; bottom = ap (λ (st : List Activity). TopLevel commands ∷ st) h; nowhere_else = refl }
 is_over (ShuttingDown started ∷ below) h = record { others = []; lowest = ShuttingDown started; is = refl; bottom = ap (λ (st : List Activity). ShuttingDown started ∷ st) h; nowhere_else = refl }
-is_over (Framed f ∷ below) h = over_one (Framed f) below refl (is_over below h)
-is_over (Releasing references ∷ below) h = over_one (Releasing references) below refl (is_over below h)
-is_over (Dying d ∷ below) h = over_one (Dying d) below refl (is_over below h)
-is_over (Collecting c ∷ below) h = over_one (Collecting c) below refl (is_over below h)
+is_over (a ∷ below) h = over_one a below refl (is_over below h)
 
 height_of : (stack : List Activity) → HasBottom stack → length stack ≡ 1 + how_many is_frame stack + how_many is_release stack + how_many is_death stack + how_many is_collection stack
 height_of [] h = absurd h
-height_of (TopLevel commands ∷ below) h =
-    let none : (sort : Activity → Bool) → how_many sort below ≡ 0 = λ sort. ap (how_many sort) h in
-    let low : length below ≡ 0 = ap (λ (st : List Activity). length st) h in
-    omega (arith, low, none is_frame, none is_release, none is_death, none is_collection)
-height_of (ShuttingDown started ∷ below) h =
-    let none : (sort : Activity → Bool) → how_many sort below ≡ 0 = λ sort. ap (how_many sort) h in
-    let low : length below ≡ 0 = ap (λ (st : List Activity). length st) h in
-    omega (arith, low, none is_frame, none is_release, none is_death, none is_collection)
 height_of (Framed f ∷ below) h = omega (arith, height_of below h)
 height_of (Releasing references ∷ below) h = omega (arith, height_of below h)
 height_of (Dying d ∷ below) h = omega (arith, height_of below h)
 height_of (Collecting c ∷ below) h = omega (arith, height_of below h)
+height_of (a ∷ below) h =
+    let none : (sort : Activity → Bool) → how_many sort below ≡ 0 = λ sort. ap (how_many sort) h in
+    let low : length below ≡ 0 = ap (λ (st : List Activity). length st) h in
+    omega (arith, low, none is_frame, none is_release, none is_death, none is_collection)
 
 frame_holds : (sort : FrameSort) (function : Option ℕ) → length (call_holds sort function) ≤ 1
-frame_holds Del function = omega arith
-frame_holds Legacy function = omega arith
-frame_holds Callback function = omega arith
-frame_holds Call function = few_option function
+frame_holds Call function = list_one function
+frame_holds sort function = omega arith
 
 death_holds : (o : ℕ) (phase : DyingPhase) → length (dying_holds o phase) ≤ 2 + length (death_waits phase)
 death_holds o (Clearing waiting) = omega arith
-death_holds o (Calling waiting) = omega arith
-death_holds o (AfterCall weak callback waiting) = omega arith
 death_holds o _ = omega arith
 
 collection_holds : (phase : CollectPhase) → length (collect_holds phase) ≤ 1 + length (collection_waits phase)
 collection_holds (WeakClearing waiting) = omega arith
-collection_holds (WeakCalling waiting) = omega arith
-collection_holds (AfterCallback weak waiting) = omega arith
-collection_holds (AfterRelease weak waiting) = omega arith
 collection_holds _ = omega arith
 
 abbrev held_by : List Activity → ℕ
@@ -142,8 +128,6 @@ held_by stack = how_many is_frame stack + 2 * how_many is_release stack + 2 * ho
 
 holds_at_most : (stack : List Activity) → AreReleasesApart stack → length (flat_map holds stack) ≤ held_by stack
 holds_at_most [] h = omega arith
-holds_at_most (TopLevel commands ∷ below) h = omega (arith, holds_at_most below h.1)
-holds_at_most (ShuttingDown started ∷ below) h = omega (arith, holds_at_most below h.1)
 holds_at_most (Framed f ∷ below) h = omega (arith, holds_at_most below h.1, frame_holds f.sort f.function, length-append (call_holds f.sort f.function) (flat_map holds below))
 holds_at_most (Releasing references ∷ below) h = omega (arith, holds_at_most below h.2, h.0, length-append references (flat_map holds below))
 holds_at_most (Dying d ∷ below) h = omega (
@@ -162,6 +146,7 @@ holds_at_most (Collecting c ∷ below) h = omega (
       (flat_map holds below),
   length-append (collection_waits c.phase) (all_waits below),
 )
+holds_at_most (a ∷ below) h = omega (arith, holds_at_most below h.1)
 
 one_collection : (a : Activity) → bit (is_collection a) ≤ collections_in a
 one_collection (Collecting c) = omega arith

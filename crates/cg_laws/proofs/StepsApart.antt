@@ -3,12 +3,12 @@ use Rattle.std.proofs.Common.{◌≡◌, ◌≢◌, sym, ◌∙◌, ap, subst, �
 use Rattle.std.specs.Prelude.{◌||◌, option_map, unwrap_or}
 use Rattle.std.specs.List.{list_any}
 use Rattle.cg_value.specs.declared.Place.{Place}
-use Rattle.cg_value.specs.declared.Place.TheVariants.{Untracked, Gen, Frozen, Cand, Seen, Back, Legacy, Pend}
+use Rattle.cg_value.specs.declared.Place.TheVariants.{Cand, Seen, Back, Pend}
 use Rattle.cg_graph.specs.Member.{Includes}
 use Rattle.cg_graph.specs.Value.{references}
 use Rattle.cg_graph.specs.Object.{Object, object_at, entries_of}
 use Rattle.cg_graph.proofs.Members.{either}
-use Rattle.cg_machine.specs.World.{World, Activity, Collecting, CollectPhase, Start, WeakClearing, WeakCalling, AfterCallback, AfterRelease, Finalizing, AfterFinalizing, Split, Turns, Turn, AfterTurn, Ending}
+use Rattle.cg_machine.specs.World.{World, Activity, Collecting, CollectPhase, Start, WeakClearing, WeakCalling, AfterCallback, AfterRelease, Finalizing, AfterFinalizing, Ending}
 use Rattle.cg_machine.specs.Holdings.{is_collection, is_collecting}
 use Rattle.cg_laws.specs.Laws.{IsOfCollection, HadItsPlace, LeavesBelow}
 use Rattle.cg_represents.proofs.Serials.{Rises}
@@ -16,17 +16,7 @@ use Rattle.cg_laws.proofs.Lookups.{at_member}
 use Rattle.cg_laws.specs.Apart.{IsInWeakPhase, IsInLatePhase, StandsRightly, IsFound, handles, IsApart}
 use Rattle.cg_laws.proofs.GarbageKept.{NamesNot, entries_name_not, list_stays, names_no_more}
 use Rattle.cg_laws.proofs.StepsPlain.{IsPlain}
-
--- what is found is partitioned
-pub found_is_apart : (place : Place) → IsFound place → IsOfCollection place
-found_is_apart Cand h = tt
-found_is_apart Seen h = tt
-found_is_apart Legacy h = tt
-found_is_apart Untracked h = absurd h
-found_is_apart (Gen i) h = absurd h
-found_is_apart Frozen h = absurd h
-found_is_apart Back h = absurd h
-found_is_apart Pend h = absurd h
+use Rattle.cg_laws.proofs.SetsApart.{found_apart}
 
 pub objects_name_not : (high : ℕ) (objects : List Object) (o : ℕ) → Rises 1 high objects → (¬ Includes (references (entries_of objects 1)) o) → NamesNot objects o
 objects_name_not high objects o rises h x m e k =
@@ -72,11 +62,8 @@ module _ (objects : List Object) (x : Object) (had : IsOfCollection x.place → 
   still_stands (AfterRelease weak waiting) h = in_weak_phase (weak ∷ waiting) h
   still_stands Finalizing h = neither h
   still_stands (AfterFinalizing o) h = neither h
-  still_stands Split h = in_late_phase h
-  still_stands Turns h = in_late_phase h
-  still_stands (Turn o) h = in_late_phase h
-  still_stands (AfterTurn o) h = in_late_phase h
   still_stands Ending h = (in_late_phase (λ y m. (h y m).0), was_not Cand tt (λ y m. (h y m).1))
+  still_stands phase h = in_late_phase h
 
 module _ (w : World) (a : Activity) (below : List Activity) (after : World) (top : w.stack ≡ a ∷ below) (none : is_collection a ≡ false)
     (rises : Rises 1 w.next_serial w.objects) (l : LeavesBelow w a below after) (p : IsPlain w.objects below after) (h : IsApart w) where
@@ -98,7 +85,7 @@ module _ (w : World) (a : Activity) (below : List Activity) (after : World) (top
         (λ k. subst (λ phase. StandsRightly phase x) (sym k.1) (clear (was_free k.0) x n));
     unhandled = λ c m. either (p.stack c m) (λ k. h.unhandled c (subst (λ st. Includes st (Collecting c)) (sym top) (inr k))) (λ k. subst (λ phase. ¬ Includes (handles phase) 1) (sym k.1) (λ n. n));
     unsaved = λ x m k.
-        let y = had x m (found_is_apart x.place k) in
+        let y = had x m (found_apart x.place k) in
         let free = h.unsaved y.0 y.1 (subst IsFound y.3 k) in
         entries_name_not after.objects x.serial (names_no_more w.objects after.objects p.list x.serial (objects_name_not w.next_serial w.objects x.serial rises
         (subst (λ s. ¬ Includes (references (entries_of w.objects 1)) s) y.2 free)));

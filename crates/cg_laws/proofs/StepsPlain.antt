@@ -21,7 +21,7 @@ use Rattle.cg_machine.specs.Due.{due, is_due, due_generation}
 use Rattle.cg_machine.specs.Run.{Step}
 use Rattle.cg_laws.proofs.ShapeLaws.{changes_leave}
 use Rattle.cg_laws.proofs.Unheld.{Calm}
-use Rattle.cg_laws.proofs.Advances.{Advance, Plainly, WithFrame, HasChanged, NothingChanges, ChangesEach, LosesEntries, GetsEntry, LosesObject, Followed, IsMoved, StaysThere, IsUntracked, IsRevived, IsPlaced, Finalizes, Soon, Late, asides, Continues, DeathGoesOn, DeathClears, CollectionGoesOn, Tops, TopEnds, GivesFunction, GivesReference, BeginsDeath, TopGoesOn, GivesReferences, fewer_references}
+use Rattle.cg_laws.proofs.Advances.{Advance, Plainly, WithFrame, HasChanged, NothingChanges, ChangesEach, LosesEntries, GetsEntry, LosesObject, Followed, IsMoved, StaysThere, IsUntracked, IsRevived, IsPlaced, Finalizes, Soon, Late, asides, Continues, DeathGoesOn, Tops, TopEnds, GivesFunction, GivesReference, BeginsDeath, TopGoesOn, GivesReferences, fewer_references}
 use Rattle.cg_laws.proofs.Starting.{begun_frame, starts_either}
 use Rattle.cg_laws.proofs.Advancing.{frame_end_advances, released_advances, dying_advances, phase_advances}
 use Rattle.cg_laws.proofs.Invariants.{HasCommands, emptied, on, CommandSteps, Steps, any_step, del_shaped, last_has}
@@ -93,8 +93,7 @@ module _ (script : Script) (below : List Activity) (v : World) (top : Activity) 
 -- what goes on is a collection only if the top is one
 continues_alone : (before after : List Object) (top a : Activity) → Continues before after top a → is_collection a ≡ is_collection top
 continues_alone before after top a (DeathGoesOn o phase next waits none) = refl
-continues_alone before after top a (DeathClears o weak waiting weaks t first lost) = refl
-continues_alone before after top a (CollectionGoesOn c d same begun early) = refl
+continues_alone before after top a other = refl
 
 tops_alone : (before after : List Object) (top : Activity) (tops below : List Activity) → Tops before after top tops → is_collection top ≡ false → StartsAlone below (tops ++ below)
 tops_alone before after top tops below (TopEnds a gone) none = below_alone below

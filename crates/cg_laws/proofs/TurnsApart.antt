@@ -6,22 +6,22 @@ use Rattle.std.proofs.lemmas.Bool.{eqb-true, eq-eqb, ne_eqb}
 use Rattle.cg_value.specs.declared.Val.TheVariants.{Ref}
 use Rattle.cg_value.specs.declared.Entry.{Entry}
 use Rattle.cg_value.specs.declared.Place.{Place}
-use Rattle.cg_value.specs.declared.Place.TheVariants.{Untracked, Gen, Frozen, Cand, Seen, Back, Legacy, Pend}
+use Rattle.cg_value.specs.declared.Place.TheVariants.{Gen, Cand, Seen, Back, Legacy, Pend}
 use Rattle.cg_script.specs.declared.Script.{Script}
 use Rattle.cg_graph.specs.Member.{Includes}
 use Rattle.cg_graph.specs.Value.{item, references, entry_references, without_last}
-use Rattle.cg_graph.specs.Object.{Object, change, object_at, entries_of, is_at, is_tuple, same_place, with_place, with_entries, objects_at, serials_at}
+use Rattle.cg_graph.specs.Object.{Object, change, object_at, entries_of, is_at, same_place, with_place, with_entries, objects_at, serials_at}
 use Rattle.cg_graph.proofs.Members.{either, Includes-map, Includes-map_cases, Includes-filter}
 use Rattle.cg_machine.specs.declared.event.Event.{Event}
-use Rattle.cg_machine.specs.declared.event.Event.TheVariants.{GcSaved}
 use Rattle.cg_machine.specs.World.{World, Activity, Collection, CollectPhase, Turns, Turn, AfterTurn, Ending, with_stack, with_change, with_objects}
-use Rattle.cg_machine.specs.Frame.{Transition}
 use Rattle.cg_laws.specs.Laws.{IsOfCollection}
-use Rattle.cg_machine.specs.Collect.{collection_at, older, replaced_place, takes_turn, TurnsStep, saved, all_saved, has_flag, save_all, empties, after_turn, EndStep}
+use Rattle.cg_machine.specs.Collect.{collection_at, older, replaced_place, takes_turn, TurnsStep, saved, all_saved, empties, after_turn, EndStep}
 use Rattle.cg_laws.proofs.Lookups.{references-append}
 use Rattle.cg_laws.specs.Apart.{StandsRightly, IsInLatePhase, IsFound, IsGarbageList, IsApart}
 use Rattle.cg_laws.proofs.SetsApart.{NoneCollects, AreApart, goes_to, restands, gives_up_apart, found_apart, is_tracked_at, changed, places_kept, moved}
 use Rattle.cg_laws.proofs.FinalizersApart.{root_not_at, late_at_gen}
+use Rattle.cg_laws.proofs.Starting.{turn_either}
+use Rattle.cg_represents.proofs.Lists.{each_changed}
 
 -- what a lookup by serial finds after a change of that object or another
 changed_at : (f : Object → Object) → ((x : Object) → (f x).serial ≡ x.serial) → (o : ℕ) (objects : List Object) → object_at (change f o objects) o ≡ option_map f (object_at objects o)
@@ -112,14 +112,12 @@ saved_placed s p o (x ∷ objects) = λ i. one (x.serial == 1) refl (x.serial ==
 
 -- where an object is that has no place of the last phase
 clear_at_end : (p : Place) → p ≢ Seen → p ≢ Back → p ≢ Pend → p ≢ Cand → same_place p Legacy ≡ false → ¬ IsOfCollection p
-clear_at_end Untracked seen back pending cand legacy k = k
-clear_at_end (Gen i) seen back pending cand legacy k = k
-clear_at_end Frozen seen back pending cand legacy k = k
 clear_at_end Cand seen back pending cand legacy k = cand refl
 clear_at_end Seen seen back pending cand legacy k = seen refl
 clear_at_end Back seen back pending cand legacy k = back refl
 clear_at_end Legacy seen back pending cand legacy k = let no : true ≡ false = legacy in cc
 clear_at_end Pend seen back pending cand legacy k = pending refl
+clear_at_end p seen back pending cand legacy k = k
 
 module _ (script : Script) (c : Collection) (below : List Activity) (v : World) (alone : NoneCollects below) where
   abbrev at : CollectPhase → World
@@ -143,15 +141,15 @@ module _ (script : Script) (c : Collection) (below : List Activity) (v : World) 
 
   -- none that moved is found
   older_gone : (o : ℕ) (y : Object) → Includes (change (with_place place) o v.objects) y → IsFound y.place → o ≢ y.serial
-  older_gone o y m = let x = Includes-map_cases (λ x. if x.serial == o then with_place place x else x) v.objects y m in subst (λ (z : Object). IsFound z.place
-      → o ≢ z.serial) x.2 (one (x.0.serial == o) x.0 refl)
-    where
-      one : (b : Bool) (x : Object) → (x.serial == o) ≡ b → IsFound (if b then with_place place x else x).place → o ≢ (if b then with_place place x else x).serial
-      one true x t found = absurd found
-      one false x t found = λ e. let no : true ≡ false = sym (eq-eqb x.serial o (sym e)) ∙ t in cc
+  older_gone o = each_changed (λ z. IsFound z.place → o ≢ z.serial) (with_place place) (λ x. x.serial == o) v.objects (λ x m t found. absurd found)
+      (λ x m t found e. let no : true ≡ false = sym (eq-eqb x.serial o (sym e)) ∙ t in cc)
 
   turn_apart : (x : Object) → Includes (serials_at v.objects Cand) x.serial → AreApart v.objects Turns → IsApart (takes_turn c x below (at Turns)).1
-  turn_apart x member h = go (has_flag c.flags save_all) (is_tuple x)
+  turn_apart x member h = turn_either (λ lines. IsApart) c x below (at Turns)
+      (λ t. goes_to c Turns below kept alone (subst (λ os. AreApart os Turns) (saved_placed x.serial place x.serial v.objects)
+      (saved_apart x.serial (change (with_place place) x.serial v.objects) (older_gone x.serial) older_now)))
+      (λ t s. goes_to c Turns below (with_change (with_place place) x.serial (at Turns)) alone older_now)
+      (λ t s. goes_to c (Turn x.serial) below v alone (restands Turns (Turn x.serial) v.objects (λ k. either k no_root (λ n. n)) (λ y m k. k) h))
     where
       no_root : x.serial ≢ 1
       no_root = root_not_at v.objects Turns Cand x.serial refl h member
@@ -161,14 +159,6 @@ module _ (script : Script) (c : Collection) (below : List Activity) (v : World) 
 
       kept : World
       kept = with_objects (change (with_place place) x.serial (saved x.serial v.objects)) (at Turns)
-
-      go : (b t : Bool) → (let s : Transition = if b then (GcSaved x.serial ∷ [], collection_at c Turns below kept) else if t
-          then ([], collection_at c Turns below (with_change (with_place place) x.serial (at Turns)))
-          else ([], collection_at c (Turn x.serial) below (at Turns)) in IsApart s.1)
-      go true t = goes_to c Turns below kept alone (subst (λ os. AreApart os Turns) (saved_placed x.serial place x.serial v.objects)
-          (saved_apart x.serial (change (with_place place) x.serial v.objects) (older_gone x.serial) older_now))
-      go false true = goes_to c Turns below (with_change (with_place place) x.serial (at Turns)) alone older_now
-      go false false = goes_to c (Turn x.serial) below v alone (restands Turns (Turn x.serial) v.objects (λ k. either k no_root (λ n. n)) (λ y m k. k) h)
 
   pub turns_apart : (events : List Event) (after : World) → TurnsStep c below (at Turns) events after → AreApart v.objects Turns → IsApart after
   turns_apart events after (inl step) h = to after _ step.yields.1 (turn_apart step.object (Includes-map (λ (z : Object). z.serial) (objects_at v.objects Cand) step.object step.member) h)
@@ -213,14 +203,11 @@ module _ (script : Script) (c : Collection) (below : List Activity) (v : World) 
       now : World
       now = with_stack below (replaced_place Legacy place (with_objects kept (at Ending)))
 
-      one : (b : Bool) (x : Object) → is_at Legacy x ≡ b → IsFrom v.objects x → (let y = if b then with_place place x else x in (y.serial ≡ 1 → IsGarbageList y) × (¬ IsOfCollection y.place))
-      one true x t from = (λ e. absurd (is_tracked_at Legacy x refl t (garbage_from v.objects x h.garbage from e).untracked), λ k. k)
-      one false x t from =
+      known : (y : Object) → Includes now.objects y → (y.serial ≡ 1 → IsGarbageList y) × (¬ IsOfCollection y.place)
+      known = each_changed (λ z. (z.serial ≡ 1 → IsGarbageList z) × (¬ IsOfCollection z.place)) (with_place place) (is_at Legacy) kept
+          (λ x m t. (λ e. absurd (is_tracked_at Legacy x refl t (garbage_from v.objects x h.garbage (all_saved_from step.keeps v.objects x m) e).untracked), λ k. k))
+          (λ x m t.
+          let from = all_saved_from step.keeps v.objects x m in
           let k = h.rightly from.was from.member in
           let late = late_from from.was x from.place k.0 in
-          (λ e. garbage_from v.objects x h.garbage from e, clear_at_end x.place late.seen late.back late.pending (λ e. k.1 (sym from.place ∙ e)) t)
-
-      known : (y : Object) → Includes now.objects y → (y.serial ≡ 1 → IsGarbageList y) × (¬ IsOfCollection y.place)
-      known y m =
-          let x = Includes-map_cases (λ x. if is_at Legacy x then with_place place x else x) kept y m in
-          subst (λ (z : Object). (z.serial ≡ 1 → IsGarbageList z) × (¬ IsOfCollection z.place)) x.2 (one (is_at Legacy x.0) x.0 refl (all_saved_from step.keeps v.objects x.0 x.1))
+          (λ e. garbage_from v.objects x h.garbage from e, clear_at_end x.place late.seen late.back late.pending (λ e. k.1 (sym from.place ∙ e)) t))

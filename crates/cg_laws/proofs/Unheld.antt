@@ -7,18 +7,16 @@ use Rattle.cg_script.specs.declared.Script.{Script}
 use Rattle.cg_graph.specs.Member.{Includes}
 use Rattle.cg_graph.specs.Object.{serials}
 use Rattle.cg_machine.specs.declared.event.FrameSort.{FrameSort}
-use Rattle.cg_machine.specs.declared.event.FrameSort.TheVariants.{Del, Legacy, Callback, Call}
-use Rattle.cg_machine.specs.World.{World, Activity, TopLevel, Framed, Releasing, Dying, Collecting, ShuttingDown, Death, DyingPhase, Finalizer, AfterFinalizer, Clearing, Calling, AfterCall, LegacyFinalizer, AfterLegacy, Detaching, Emptying, CollectPhase, AfterRelease, AfterTurn}
+use Rattle.cg_machine.specs.declared.event.FrameSort.TheVariants.{Call}
+use Rattle.cg_machine.specs.World.{World, Activity, Framed, Dying, Collecting, Death, DyingPhase, Finalizer, AfterFinalizer, Clearing, Calling, AfterCall, AfterLegacy, Detaching, Emptying, CollectPhase, AfterRelease, AfterTurn}
 use Rattle.cg_graph.proofs.Members.{either, or_left, Includes-append_left, Includes-append_right, Includes-append_cases}
 use Rattle.cg_machine.specs.Holdings.{holds, dying_holds, is_death_of}
 use Rattle.cg_laws.proofs.Unreferred.{AreQuiet, Unheld, Forgotten, Mortal, HasFinalizers, NoneRefers, AreReferred, Alters, alters_refl, mortal_after, finalizers_after, still_forgotten}
 
 -- the local of a frame, `self` or `ref`, is held below it
 abbrev pub IsLocalHeld : FrameSort → ℕ → List Activity → Type 0
-IsLocalHeld Del o below = Includes (flat_map holds below) o
-IsLocalHeld Legacy o below = Includes (flat_map holds below) o
-IsLocalHeld Callback o below = Includes (flat_map holds below) o
 IsLocalHeld Call o below = Unit {0}
+IsLocalHeld sort o below = Includes (flat_map holds below) o
 
 -- if a death below is that of o, it holds o there
 abbrev pub IsHeldWhereDying : ℕ → List Activity → Type 0
@@ -32,12 +30,10 @@ GivenUp phase below = Unit {0}
 
 -- what an activity needs of those below it: an object dies at most once at a time
 abbrev pub IsOver : Activity → List Activity → Type 0
-IsOver (TopLevel commands) below = Unit {0}
 IsOver (Framed f) below = IsLocalHeld f.sort f.subject below
-IsOver (Releasing references) below = Unit {0}
 IsOver (Dying d) below = list_any (is_death_of d.object) below ≡ false
 IsOver (Collecting c) below = GivenUp c.phase below
-IsOver (ShuttingDown started) below = Unit {0}
+IsOver a below = Unit {0}
 
 abbrev pub AreOver : List Activity → Type 0
 AreOver [] = Unit {0}
@@ -45,15 +41,12 @@ AreOver (a ∷ below) = IsOver a below × AreOver below
 
 -- a death below another activity
 abbrev pub Rests : Script → World → ℕ → DyingPhase → Type 0
-Rests script w o Finalizer = ⊥
 Rests script w o AfterFinalizer = Mortal w.objects o
-Rests script w o (Clearing waiting) = ⊥
 Rests script w o (Calling waiting) = Mortal w.objects o × Forgotten w o
 Rests script w o (AfterCall weak callback waiting) = Mortal w.objects o × Forgotten w o
-Rests script w o LegacyFinalizer = ⊥
 Rests script w o AfterLegacy = Mortal w.objects o × HasFinalizers script w.objects o
-Rests script w o Detaching = ⊥
 Rests script w o Emptying = Mortal w.objects o × Forgotten w o
+Rests script w o phase = ⊥
 
 abbrev pub AreResting : Script → World → List Activity → Type 0
 AreResting script w below = (d : Death) → Includes below (Dying d) → Rests script w d.object d.phase
@@ -64,18 +57,13 @@ Stands script w o AfterFinalizer = Mortal w.objects o
 Stands script w o (Clearing waiting) = Unheld w o × (waiting ≢ [] → Includes (serials w.objects) o)
 Stands script w o (Calling waiting) = Forgotten w o × (waiting ≢ [] → Mortal w.objects o)
 Stands script w o (AfterCall weak callback waiting) = Mortal w.objects o × Forgotten w o
-Stands script w o LegacyFinalizer = Forgotten w o
 Stands script w o AfterLegacy = Mortal w.objects o × HasFinalizers script w.objects o
 Stands script w o Detaching = Unheld w o × (HasFinalizers script w.objects o ⊎ NoneRefers o w.objects)
-Stands script w o Emptying = Forgotten w o
+Stands script w o phase = Forgotten w o
 
 abbrev pub IsOnTop : Script → World → Activity → Type 0
-IsOnTop script w (TopLevel commands) = Unit {0}
-IsOnTop script w (Framed f) = Unit {0}
-IsOnTop script w (Releasing references) = Unit {0}
 IsOnTop script w (Dying d) = Stands script w d.object d.phase
-IsOnTop script w (Collecting c) = Unit {0}
-IsOnTop script w (ShuttingDown started) = Unit {0}
+IsOnTop script w a = Unit {0}
 
 abbrev pub IsStack : Script → World → List Activity → Type 0
 IsStack script w [] = Unit {0}
@@ -87,15 +75,12 @@ pub record Calm (script : Script) (w : World) : Type 0 where
   pub stack : IsStack script w w.stack
 
 pub stands : (script : Script) (w : World) (o : ℕ) (phase : DyingPhase) → Rests script w o phase → Stands script w o phase
-stands script w o Finalizer h = absurd h
 stands script w o AfterFinalizer h = h
-stands script w o (Clearing waiting) h = absurd h
 stands script w o (Calling waiting) h = (h.1, λ e. h.0)
 stands script w o (AfterCall weak callback waiting) h = h
-stands script w o LegacyFinalizer h = absurd h
 stands script w o AfterLegacy h = h
-stands script w o Detaching h = absurd h
 stands script w o Emptying h = h.1
+stands script w o phase h = absurd h
 
 on_top : (script : Script) (w : World) (a : Activity) (below : List Activity) → AreResting script w (a ∷ below) → IsOnTop script w a
 on_top script w (Dying d) below h = stands script w d.object d.phase (h d (inl refl))
@@ -112,15 +97,12 @@ pub record Keeps (script : Script) (w after : World) (o : ℕ) : Type 0 where
   pub forgotten : Mortal w.objects o → Forgotten w o → Forgotten after o
 
 rests_after : (script : Script) (w after : World) (o : ℕ) (phase : DyingPhase) → Keeps script w after o → Rests script w o phase → Rests script after o phase
-rests_after script w after o Finalizer k h = h
 rests_after script w after o AfterFinalizer k h = k.mortal h
-rests_after script w after o (Clearing waiting) k h = h
 rests_after script w after o (Calling waiting) k h = (k.mortal h.0, k.forgotten h.0 h.1)
 rests_after script w after o (AfterCall weak callback waiting) k h = (k.mortal h.0, k.forgotten h.0 h.1)
-rests_after script w after o LegacyFinalizer k h = h
 rests_after script w after o AfterLegacy k h = (k.mortal h.0, k.finalizers h.0 h.1)
-rests_after script w after o Detaching k h = h
 rests_after script w after o Emptying k h = (k.mortal h.0, k.forgotten h.0 h.1)
+rests_after script w after o phase k h = h
 
 pub resting_after : (script : Script) (w after : World) (below : List Activity) → ((d : Death) → Includes below (Dying d) → Keeps script w after d.object)
     → AreResting script w below → AreResting script after below
@@ -161,26 +143,12 @@ held_by_member (b ∷ stack) a o (inr m) h = Includes-append_right (holds b) (fl
 
 -- a death with something above it holds its object, or its object is forgotten
 pub rests_cases : (script : Script) (w : World) (o : ℕ) (phase : DyingPhase) → Rests script w o phase → Includes (dying_holds o phase) o ⊎ Forgotten w o
-rests_cases script w o Finalizer h = absurd h
 rests_cases script w o AfterFinalizer h = inl (inl refl)
-rests_cases script w o (Clearing waiting) h = absurd h
 rests_cases script w o (Calling waiting) h = inr h.1
 rests_cases script w o (AfterCall weak callback waiting) h = inr h.1
-rests_cases script w o LegacyFinalizer h = absurd h
 rests_cases script w o AfterLegacy h = inl (inl refl)
-rests_cases script w o Detaching h = absurd h
 rests_cases script w o Emptying h = inr h.1
-
-pub rests_lives : (script : Script) (w : World) (o : ℕ) (phase : DyingPhase) → Rests script w o phase → Includes (serials w.objects) o
-rests_lives script w o Finalizer h = absurd h
-rests_lives script w o AfterFinalizer h = h.lives
-rests_lives script w o (Clearing waiting) h = absurd h
-rests_lives script w o (Calling waiting) h = h.0.lives
-rests_lives script w o (AfterCall weak callback waiting) h = h.0.lives
-rests_lives script w o LegacyFinalizer h = absurd h
-rests_lives script w o AfterLegacy h = h.0.lives
-rests_lives script w o Detaching h = absurd h
-rests_lives script w o Emptying h = h.0.lives
+rests_cases script w o phase h = absurd h
 
 -- an object that is held while it dies below is held there
 pub held_where_dying : (script : Script) (w : World) (below : List Activity) (o : ℕ) → AreResting script w below → (Forgotten w o → ⊥) → IsHeldWhereDying o below

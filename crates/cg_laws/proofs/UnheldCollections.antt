@@ -3,35 +3,34 @@
 use Rattle.std.proofs.Common.{◌≡◌, ◌≢◌, refl, sym, ◌∙◌, ap, subst, ℕ, Bool, true, false, inl, inr, List, [], ◌∷◌, ◌++◌, map, length, Option, Some, None}
 use Rattle.std.specs.Prelude.{◌==◌, ◌+◌, if◌then◌else◌, flat_map, filter, option_map, option_and_then, unwrap_or}
 use Rattle.std.proofs.lemmas.Bool.{eqb-true, and_parts}
-use Rattle.cg_value.specs.declared.Entry.{Entry}
 use Rattle.cg_value.specs.declared.Val.TheVariants.{Ref}
 use Rattle.cg_value.specs.declared.Place.{Place}
 use Rattle.cg_value.specs.declared.Place.TheVariants.{Untracked, Gen, Cand, Seen, Legacy, Pend}
 use Rattle.cg_script.specs.declared.Script.{Script}
 use Rattle.cg_graph.specs.Member.{Includes, includes}
 use Rattle.cg_graph.specs.Value.{item, entry_references, last_entry, without_last}
-use Rattle.cg_graph.specs.Object.{Object, change, object_at, is_in_map, entries_of, is_at, is_tuple, same_place, with_place, with_entries, marked, serials, serials_at, objects_at}
+use Rattle.cg_graph.specs.Object.{Object, change, object_at, entries_of, is_at, same_place, with_place, with_entries, marked, serials, serials_at, objects_at}
 use Rattle.cg_graph.specs.declared.Edge.{Edge}
 use Rattle.cg_graph.specs.Reach.{Reach, first, next as further}
 use Rattle.cg_graph.proofs.Members.{either, Includes-of, Includes-append_cases, Includes-map, Includes-map_cases, Includes-filter_cases}
 use Rattle.cg_machine.specs.declared.event.Event.{Event}
-use Rattle.cg_machine.specs.declared.event.Event.TheVariants.{GcSaved}
 use Rattle.cg_machine.specs.declared.event.FrameSort.TheVariants.{Del, Callback}
 use Rattle.cg_machine.specs.declared.event.FrameSpec.{FrameSpec}
 use Rattle.cg_machine.specs.Program.{profile_of}
-use Rattle.cg_machine.specs.World.{World, Activity, Releasing, Dying, Collecting, Death, Collection, CollectPhase, Start, WeakClearing, WeakCalling, AfterCallback, AfterRelease, Finalizing, AfterFinalizing, Split, Turns, Turn, AfterTurn, Ending, Numbers, push, with_stack, with_change, with_objects}
-use Rattle.cg_machine.specs.Frame.{Transition, start_frame, procedure_of}
+use Rattle.cg_machine.specs.World.{World, Activity, Releasing, Dying, Collecting, Death, Collection, CollectPhase, Start, WeakClearing, WeakCalling, AfterCallback, AfterRelease, Finalizing, AfterFinalizing, Split, Turns, Turn, AfterTurn, Ending, Numbers, push, with_stack, with_objects}
+use Rattle.cg_machine.specs.Frame.{start_frame, procedure_of}
 use Rattle.cg_machine.specs.Holdings.{holds, call_holds, collect_holds}
 use Rattle.cg_machine.specs.Weak.{loses_referent, callback_of, AllLose}
 use Rattle.cg_machine.specs.Dying.{finalizer_to_run}
-use Rattle.cg_machine.specs.Collect.{collection_at, merged_place, sorted, StartStep, older, waits, ClearsOne, WeakClearingStep, calls_back, after_release, looks_at, IsMemberOf, replaced_place, FinalizingStep, get_older, loses_at_split, SplitStep, takes_turn, TurnsStep, saved, all_saved, has_flag, save_all, is_saved, empties, after_turn, EndStep, PhaseStep}
-use Rattle.cg_laws.proofs.Unreferred.{IsQuiet, AreQuiet, Forgotten, Mortal, Alters, alters_refl, alters_trans, map_alters, if_alters, change_alters, place_later, map_quiet, test_quiet, place_quiet, entries_quiet, lost_quiet, lost_alters, entries_alter, place_alters, referred_after, still_forgotten}
+use Rattle.cg_machine.specs.Collect.{collection_at, merged_place, sorted, older, waits, calls_back, after_release, looks_at, IsMemberOf, replaced_place, get_older, loses_at_split, takes_turn, saved, all_saved, is_saved, empties, after_turn, PhaseStep}
+use Rattle.cg_laws.proofs.Unreferred.{IsQuiet, AreQuiet, Forgotten, Mortal, Alters, alters_refl, alters_trans, map_alters, if_alters, change_alters, place_later, map_quiet, test_quiet, place_quiet, entries_quiet, lost_quiet, lost_alters, entries_alter, place_alters, referred_after, still_forgotten, still_later}
 use Rattle.cg_laws.proofs.Pointwise.{GoesOn, all_lose_by, all_saved_by}
 use Rattle.cg_laws.proofs.Unheld.{IsLocalHeld, AreResting, GivenUp, IsHeldWhereDying, Calm, resting_stack, resting_after, altered_keeps, popped_free, top_free, pushed_free, turned_free, held_where_dying}
 use Rattle.cg_laws.proofs.Lookups.{references-append, last_free, shorter_free}
 use Rattle.cg_represents.proofs.Lists.{absent, no_times}
 use Rattle.cg_laws.proofs.Releasing.{starts_calm}
 use Rattle.cg_laws.proofs.Clearing.{refers_early}
+use Rattle.cg_laws.proofs.Starting.{turn_either, called_back_either, option_either}
 
 -- an object in a tracked place is not quiet
 quiet_apart : (o : ℕ) (p : Place) (x : Object) → same_place Untracked p ≡ false → is_at p x ≡ true → IsQuiet o x → x.serial ≢ o
@@ -65,7 +64,7 @@ alterations : GoesOn Alters
 alterations = record { same = alters_refl; trans = alters_trans }
 
 pub saved_alters : (s : ℕ) (objects : List Object) → Alters objects (saved s objects)
-saved_alters s objects = change_alters (λ x. with_entries (x.entries ++ item (Ref s) ∷ []) x) (λ x. record { serial = refl; code = refl; class = refl; referent = inl refl }) 1 objects
+saved_alters s objects = change_alters (λ x. with_entries (x.entries ++ item (Ref s) ∷ []) x) (λ x. still_later) 1 objects
 
 all_saved_quiet : (o : ℕ) (keeps : List ℕ) (objects : List Object) → ¬ Includes keeps o → AreQuiet o objects → AreQuiet o (all_saved keeps objects)
 all_saved_quiet o [] objects apart q = q
@@ -153,57 +152,6 @@ module _ (script : Script) (c : Collection) (below : List Activity) (v : World) 
   moves_to : (after now : World) → after ≡ now → Calm script now → Calm script after
   moves_to after now e k = subst (Calm script) (sym e) k
 
-  start_calm : (events : List Event) (after : World) → StartStep script (at Start) c below events after → Calm script (at Start) → Calm script after
-  start_calm events after step calm = moves_to after _ step.world (goes_to Start (WeakClearing []) c (sorted g step.places now) _ alters calm (λ d m l f. (quiet d.object f.unheld.quiet, λ k. k)) tt)
-    where
-      g : ℕ
-      g = c.generation
-
-      now : List Object
-      now = map (λ x. with_place (merged_place g x.place) x) v.objects
-
-      alters : Alters v.objects (sorted g step.places now)
-      alters = alters_trans v.objects now (sorted g step.places now) (map_alters (λ x. with_place (merged_place g x.place) x)
-          (λ x. place_later (merged_place g x.place) x) v.objects) (moved_alters (Gen g) step.places now)
-
-      quiet : (p : ℕ) → AreQuiet p v.objects → AreQuiet p (sorted g step.places now)
-      quiet p q = moved_quiet p (Gen g) step.places now refl (map_quiet p (λ x. with_place (merged_place g x.place) x)
-          (λ x k. record { entries = k.entries; untracked = λ i. ap (merged_place g) (k.untracked i); refers_to_none = k.refers_to_none }) v.objects q)
-
-  lost_one : (r : Option ℕ) (f : ℕ → Bool) → unwrap_or (option_map f r) false ≡ true → r ≢ None
-  lost_one r f e none = let no : false ≡ true = sym (ap (λ m. unwrap_or (option_map f m) false) none) ∙ e in cc
-
-  clears_calm : (waiting : List ℕ) (events : List Event) (after : World) → ClearsOne (profile_of script.items) c waiting below (at (WeakClearing waiting))
-      events after → Calm script (at (WeakClearing waiting)) → Calm script after
-  clears_calm waiting events after step calm = moves_to after _ step.yields.1 (go (waits v.objects step.weak))
-    where
-      lost : List Object
-      lost = loses_referent step.weak v.objects
-
-      apart : (p : ℕ) → Mortal v.objects p → step.weak ≢ p
-      apart p l e = lost_one step.newest.object.referent _ (refers_early (profile_of script.items) v.objects step.newest.object step.newest.to_lose)
-          (l.refers_to_none step.newest.object step.newest.member (step.newest.is ∙ e))
-
-      held : (p : ℕ) → Mortal v.objects p → ¬ Includes waiting p → ¬ Includes (waiting ++ step.weak ∷ []) p
-      held p l free m = either (Includes-append_cases waiting (step.weak ∷ []) p m) free (λ k. either k (apart p l) (λ n. n))
-
-      go : (b : Bool) → Calm script (if b then collection_at c (WeakClearing (waiting ++ step.weak ∷ [])) below
-          (with_objects (change (with_place Pend) step.weak lost) (at (WeakClearing waiting))) else collection_at c (WeakClearing waiting) below
-          (with_objects lost (at (WeakClearing waiting))))
-      go true = goes_to (WeakClearing waiting) (WeakClearing (waiting ++ step.weak ∷ [])) c (change (with_place Pend) step.weak lost) v.numbers
-          (alters_trans v.objects lost (change (with_place Pend) step.weak lost) (lost_alters step.weak v.objects) (place_alters Pend step.weak lost)) calm
-          (λ d m l f. (
-            place_quiet d.object step.weak Pend (apart d.object l) lost (lost_quiet d.object step.weak v.objects f.unheld.quiet),
-            held d.object l (turn_holds (WeakClearing waiting) d.object f),
-          )) tt
-      go false = goes_to (WeakClearing waiting) (WeakClearing waiting) c lost v.numbers (lost_alters step.weak v.objects) calm
-          (λ d m l f. (lost_quiet d.object step.weak v.objects f.unheld.quiet, turn_holds (WeakClearing waiting) d.object f)) tt
-
-  clearing_calm : (waiting : List ℕ) (events : List Event) (after : World) → WeakClearingStep (profile_of script.items) c waiting below
-      (at (WeakClearing waiting)) events after → Calm script (at (WeakClearing waiting)) → Calm script after
-  clearing_calm waiting events after (inl step) calm = clears_calm waiting events after step calm
-  clearing_calm waiting events after (inr step) calm = moves_to after _ step.1.1 (turns_to (WeakClearing waiting) (WeakCalling waiting) (λ p h. h) tt calm)
-
   calls_back_calm : (waiting : List ℕ) → Calm script (at (WeakCalling waiting)) → Calm script (calls_back script c waiting below (at (WeakCalling waiting))).1
   calls_back_calm [] calm = turns_to (WeakCalling []) Finalizing (λ p h. h) tt calm
   calls_back_calm (weak ∷ waiting) calm =
@@ -231,25 +179,21 @@ module _ (script : Script) (c : Collection) (below : List Activity) (v : World) 
       (subst (Includes (flat_map holds below)) e (given d m (sym e)))) v.objects f.unheld.quiet
 
   after_release_calm : (weak : ℕ) (waiting : List ℕ) → Calm script (at (AfterRelease weak waiting)) → Calm script (after_release c weak waiting below (at (AfterRelease weak waiting))).1
-  after_release_calm weak waiting calm = go (is_in_map v.objects weak)
+  after_release_calm weak waiting calm = called_back_either (λ lines. Calm script) c weak waiting below (at (AfterRelease weak waiting))
+      (λ t. goes_to (AfterRelease weak waiting) (WeakCalling waiting) c (change (with_place place) weak v.objects) v.numbers (place_alters place weak v.objects) calm
+      (λ d m l f. (older_quiet (AfterRelease weak waiting) weak place calm.over.0 d m f, turn_holds (AfterRelease weak waiting) d.object f)) tt)
+      (λ t. goes_to (AfterRelease weak waiting) (WeakCalling waiting) (record c { collected = c.collected + 1 }) v.objects v.numbers
+      (alters_refl v.objects) calm (λ d m l f. (f.unheld.quiet, turn_holds (AfterRelease weak waiting) d.object f)) tt)
     where
       place : Place
       place = Gen (older c.generation)
-
-      go : (b : Bool) → (let t : Transition = if b
-          then ([], collection_at c (WeakCalling waiting) below (with_change (with_place place) weak (at (AfterRelease weak waiting))))
-          else ([], collection_at (record c { collected = c.collected + 1 }) (WeakCalling waiting) below (at (AfterRelease weak waiting))) in Calm script t.1)
-      go true = goes_to (AfterRelease weak waiting) (WeakCalling waiting) c (change (with_place place) weak v.objects) v.numbers (place_alters place weak v.objects) calm
-          (λ d m l f. (older_quiet (AfterRelease weak waiting) weak place calm.over.0 d m f, turn_holds (AfterRelease weak waiting) d.object f)) tt
-      go false = goes_to (AfterRelease weak waiting) (WeakCalling waiting) (record c { collected = c.collected + 1 }) v.objects v.numbers
-          (alters_refl v.objects) calm (λ d m l f. (f.unheld.quiet, turn_holds (AfterRelease weak waiting) d.object f)) tt
 
   looks_at_calm : (o : ℕ) (m : Option ℕ) → IsMemberOf (at Finalizing) Cand o → Calm script (at Finalizing) → Calm script (looks_at script c o below (at Finalizing) m).1
   looks_at_calm o None member calm = goes_to Finalizing Finalizing c (change (with_place Seen) o v.objects) v.numbers (place_alters Seen o v.objects) calm
       (λ d m l f. (place_quiet d.object o Seen (member_apart v.objects d.object Cand o refl f.unheld.quiet member) v.objects f.unheld.quiet, λ k. k)) tt
   looks_at_calm o (Some p) member calm =
       calls Finalizing (AfterFinalizing o) (record { sort = Del; proc = p; subject = o; func = None }) (change seen o v.objects)
-      (change_alters seen (λ x. record { serial = refl; code = refl; class = refl; referent = inl refl }) o v.objects) calm
+      (change_alters seen (λ x. still_later) o v.objects) calm
       (λ d m l f. let apart = member_apart v.objects d.object Cand o refl f.unheld.quiet member in (
         test_quiet d.object seen (λ x. x.serial == o) (λ x e k. record {
           entries = k.entries;
@@ -263,19 +207,89 @@ module _ (script : Script) (c : Collection) (below : List Activity) (v : World) 
       seen : Object → Object
       seen x = marked (with_place Seen x)
 
-  finalizing_calm : (events : List Event) (after : World) → FinalizingStep script c below (at Finalizing) events after → Calm script (at Finalizing) → Calm script after
-  finalizing_calm events after (inl step) calm = moves_to after _ step.yields.1 (looks_at_calm step.object (option_and_then (finalizer_to_run script)
-      (object_at v.objects step.object)) step.condemned calm)
-  finalizing_calm events after (inr step) calm = moves_to after _ step.1.1 (goes_to Finalizing Split c (map (λ x. if is_at Seen x then with_place Cand x else x)
-      v.objects) v.numbers (moved_alters Seen (λ x. Cand) v.objects) calm
-      (λ d m l f. (moved_quiet d.object Seen (λ x. Cand) v.objects refl f.unheld.quiet, λ k. k)) tt)
-
   after_finalizing_calm : (o : ℕ) → Calm script (at (AfterFinalizing o)) → Calm script (push (Releasing (o ∷ [])) (at Finalizing))
   after_finalizing_calm o calm = gives_up (AfterFinalizing o) Finalizing (o ∷ []) v.objects (alters_refl v.objects) calm (λ d m l f. (f.unheld.quiet, λ k. k))
       (λ p f. turn_holds (AfterFinalizing o) p f) tt
 
-  split_calm : (events : List Event) (after : World) → SplitStep c below (at Split) events after → Calm script (at Split) → Calm script after
-  split_calm events after step calm = moves_to after _ step.world
+  turn_calm : (x : Object) → Includes (serials_at v.objects Cand) x.serial → Calm script (at Turns) → Calm script (takes_turn c x below (at Turns)).1
+  turn_calm x member calm = turn_either (λ lines. Calm script) c x below (at Turns)
+      (λ t. goes_to Turns Turns c (change (with_place place) x.serial (saved x.serial v.objects)) v.numbers
+      (alters_trans v.objects (saved x.serial v.objects) (change (with_place place) x.serial (saved x.serial v.objects)) (saved_alters x.serial v.objects)
+      (place_alters place x.serial (saved x.serial v.objects))) calm
+      (λ d m l f. (
+        place_quiet d.object x.serial place (apart d.object f.unheld.quiet) (saved x.serial v.objects) (saved_quiet d.object x.serial v.objects
+            (apart d.object f.unheld.quiet) f.unheld.quiet),
+        λ k. k,
+      )) tt)
+      (λ t s. goes_to Turns Turns c (change (with_place place) x.serial v.objects) v.numbers (place_alters place x.serial v.objects) calm
+      (λ d m l f. (place_quiet d.object x.serial place (apart d.object f.unheld.quiet) v.objects f.unheld.quiet, λ k. k)) tt)
+      (λ t s. goes_to Turns (Turn x.serial) c v.objects v.numbers (alters_refl v.objects) calm (λ d m l f. (f.unheld.quiet, λ k. either k (apart d.object f.unheld.quiet) (λ n. n))) tt)
+    where
+      place : Place
+      place = Gen (older c.generation)
+
+      apart : (p : ℕ) → AreQuiet p v.objects → x.serial ≢ p
+      apart p q = member_apart v.objects p Cand x.serial refl q member
+
+  after_turn_calm : (o : ℕ) → Calm script (at (AfterTurn o)) → Calm script (after_turn c o below (at (AfterTurn o))).1
+  after_turn_calm o calm =
+      let place = Gen (older c.generation) in
+      goes_to (AfterTurn o) Turns c (change (with_place place) o v.objects) v.numbers (place_alters place o v.objects) calm
+      (λ d m l f. (older_quiet (AfterTurn o) o place calm.over.0 d m f, λ k. k)) tt
+
+  lost_one : (r : Option ℕ) (f : ℕ → Bool) → unwrap_or (option_map f r) false ≡ true → r ≢ None
+  lost_one r f e none = let no : false ≡ true = sym (ap (λ m. unwrap_or (option_map f m) false) none) ∙ e in cc
+
+  pub phase_calm : (phase : CollectPhase) (events : List Event) (after : World) → PhaseStep script c phase below (at phase) events after → Calm script (at phase) → Calm script after
+  phase_calm Start events after step calm = moves_to after _ step.world (goes_to Start (WeakClearing []) c (sorted g step.places now) _ alters calm (λ d m l f. (quiet d.object f.unheld.quiet, λ k. k)) tt)
+    where
+      g : ℕ
+      g = c.generation
+
+      now : List Object
+      now = map (λ x. with_place (merged_place g x.place) x) v.objects
+
+      alters : Alters v.objects (sorted g step.places now)
+      alters = alters_trans v.objects now (sorted g step.places now) (map_alters (λ x. with_place (merged_place g x.place) x)
+          (λ x. place_later (merged_place g x.place) x) v.objects) (moved_alters (Gen g) step.places now)
+
+      quiet : (p : ℕ) → AreQuiet p v.objects → AreQuiet p (sorted g step.places now)
+      quiet p q = moved_quiet p (Gen g) step.places now refl (map_quiet p (λ x. with_place (merged_place g x.place) x)
+          (λ x k. record { entries = k.entries; untracked = λ i. ap (merged_place g) (k.untracked i); refers_to_none = k.refers_to_none }) v.objects q)
+  phase_calm (WeakClearing waiting) events after (inl step) calm = moves_to after _ step.yields.1 (go (waits v.objects step.weak))
+    where
+      lost : List Object
+      lost = loses_referent step.weak v.objects
+
+      apart : (p : ℕ) → Mortal v.objects p → step.weak ≢ p
+      apart p l e = lost_one step.newest.object.referent _ (refers_early (profile_of script.items) v.objects step.newest.object step.newest.to_lose)
+          (l.refers_to_none step.newest.object step.newest.member (step.newest.is ∙ e))
+
+      held : (p : ℕ) → Mortal v.objects p → ¬ Includes waiting p → ¬ Includes (waiting ++ step.weak ∷ []) p
+      held p l free m = either (Includes-append_cases waiting (step.weak ∷ []) p m) free (λ k. either k (apart p l) (λ n. n))
+
+      go : (b : Bool) → Calm script (if b then collection_at c (WeakClearing (waiting ++ step.weak ∷ [])) below
+          (with_objects (change (with_place Pend) step.weak lost) (at (WeakClearing waiting))) else collection_at c (WeakClearing waiting) below
+          (with_objects lost (at (WeakClearing waiting))))
+      go true = goes_to (WeakClearing waiting) (WeakClearing (waiting ++ step.weak ∷ [])) c (change (with_place Pend) step.weak lost) v.numbers
+          (alters_trans v.objects lost (change (with_place Pend) step.weak lost) (lost_alters step.weak v.objects) (place_alters Pend step.weak lost)) calm
+          (λ d m l f. (
+            place_quiet d.object step.weak Pend (apart d.object l) lost (lost_quiet d.object step.weak v.objects f.unheld.quiet),
+            held d.object l (turn_holds (WeakClearing waiting) d.object f),
+          )) tt
+      go false = goes_to (WeakClearing waiting) (WeakClearing waiting) c lost v.numbers (lost_alters step.weak v.objects) calm
+          (λ d m l f. (lost_quiet d.object step.weak v.objects f.unheld.quiet, turn_holds (WeakClearing waiting) d.object f)) tt
+  phase_calm (WeakClearing waiting) events after (inr step) calm = moves_to after _ step.1.1 (turns_to (WeakClearing waiting) (WeakCalling waiting) (λ p h. h) tt calm)
+  phase_calm (WeakCalling waiting) events after step calm = moves_to after _ step.1 (calls_back_calm waiting calm)
+  phase_calm (AfterCallback weak waiting) events after step calm = moves_to after _ step.1 (after_callback_calm weak waiting calm)
+  phase_calm (AfterRelease weak waiting) events after step calm = moves_to after _ step.1 (after_release_calm weak waiting calm)
+  phase_calm Finalizing events after (inl step) calm = moves_to after _ step.yields.1 (looks_at_calm step.object (option_and_then (finalizer_to_run script)
+      (object_at v.objects step.object)) step.condemned calm)
+  phase_calm Finalizing events after (inr step) calm = moves_to after _ step.1.1 (goes_to Finalizing Split c (map (λ x. if is_at Seen x then with_place Cand x else x)
+      v.objects) v.numbers (moved_alters Seen (λ x. Cand) v.objects) calm
+      (λ d m l f. (moved_quiet d.object Seen (λ x. Cand) v.objects refl f.unheld.quiet, λ k. k)) tt)
+  phase_calm (AfterFinalizing o) events after step calm = moves_to after _ step.1 (after_finalizing_calm o calm)
+  phase_calm Split events after step calm = moves_to after _ step.world
       (goes_to Split Turns (record c { collected = c.collected + length (serials_at step.objects Cand) }) step.objects v.numbers alters calm
       (λ d m l f. (quiet d.object f.unheld.quiet, λ k. k)) tt)
     where
@@ -298,56 +312,17 @@ module _ (script : Script) (c : Collection) (below : List Activity) (v : World) 
         untracked = λ i. absurd (member_apart v.objects p Cand x.serial refl q (member x.serial e) i);
         refers_to_none = k.refers_to_none;
       }) v.objects q)
-
-  turn_calm : (x : Object) → Includes (serials_at v.objects Cand) x.serial → Calm script (at Turns) → Calm script (takes_turn c x below (at Turns)).1
-  turn_calm x member calm = go (has_flag c.flags save_all) (is_tuple x)
-    where
-      place : Place
-      place = Gen (older c.generation)
-
-      apart : (p : ℕ) → AreQuiet p v.objects → x.serial ≢ p
-      apart p q = member_apart v.objects p Cand x.serial refl q member
-
-      older_now : World
-      older_now = collection_at c Turns below (with_change (with_place place) x.serial (at Turns))
-
-      go : (b t : Bool) → (let s : Transition = if b
-          then (GcSaved x.serial ∷ [], collection_at c Turns below (with_objects (change (with_place place) x.serial (saved x.serial v.objects)) (at Turns)))
-          else if t then ([], older_now) else ([], collection_at c (Turn x.serial) below (at Turns)) in Calm script s.1)
-      go true t = goes_to Turns Turns c (change (with_place place) x.serial (saved x.serial v.objects)) v.numbers
-          (alters_trans v.objects (saved x.serial v.objects) (change (with_place place) x.serial (saved x.serial v.objects)) (saved_alters x.serial v.objects)
-          (place_alters place x.serial (saved x.serial v.objects))) calm
-          (λ d m l f. (
-            place_quiet d.object x.serial place (apart d.object f.unheld.quiet) (saved x.serial v.objects) (saved_quiet d.object x.serial v.objects
-                (apart d.object f.unheld.quiet) f.unheld.quiet),
-            λ k. k,
-          )) tt
-      go false true = goes_to Turns Turns c (change (with_place place) x.serial v.objects) v.numbers (place_alters place x.serial v.objects) calm
-          (λ d m l f. (place_quiet d.object x.serial place (apart d.object f.unheld.quiet) v.objects f.unheld.quiet, λ k. k)) tt
-      go false false = goes_to Turns (Turn x.serial) c v.objects v.numbers (alters_refl v.objects) calm (λ d m l f. (f.unheld.quiet, λ k. either k (apart d.object f.unheld.quiet) (λ n. n))) tt
-
-  turns_calm : (events : List Event) (after : World) → TurnsStep c below (at Turns) events after → Calm script (at Turns) → Calm script after
-  turns_calm events after (inl step) calm = moves_to after _ step.yields.1 (turn_calm step.object (Includes-map (λ (z : Object). z.serial) (objects_at v.objects Cand) step.object step.member) calm)
-  turns_calm events after (inr step) calm = moves_to after _ step.1.1 (turns_to Turns Ending (λ p h. h) tt calm)
-
-  empties_calm : (o : ℕ) (m : Option Entry) → last_entry (entries_of v.objects o) ≡ m → Calm script (at (Turn o)) → Calm script (empties c o below (at (Turn o)) m).1
-  empties_calm o None e calm =
-      gives_up (Turn o) (AfterTurn o) (o ∷ []) v.objects (alters_refl v.objects) calm (λ d m l f. (f.unheld.quiet, λ k. k)) (λ p f. turn_holds (Turn o) p f)
-      (held_where_dying script (at (Turn o)) below o calm.stack.1 (λ f. turn_holds (Turn o) o f (inl refl)))
-  empties_calm o (Some entry) e calm =
-      gives_up (Turn o) (Turn o) (entry_references entry) (change (with_entries (without_last (entries_of v.objects o))) o v.objects)
+  phase_calm Turns events after (inl step) calm = moves_to after _ step.yields.1 (turn_calm step.object (Includes-map (λ (z : Object). z.serial) (objects_at v.objects Cand) step.object step.member) calm)
+  phase_calm Turns events after (inr step) calm = moves_to after _ step.1.1 (turns_to Turns Ending (λ p h. h) tt calm)
+  phase_calm (Turn o) events after step calm = moves_to after _ step.1 (option_either (λ lines. Calm script) (empties c o below (at (Turn o))) (last_entry (entries_of v.objects o))
+      (λ e. gives_up (Turn o) (AfterTurn o) (o ∷ []) v.objects (alters_refl v.objects) calm (λ d m l f. (f.unheld.quiet, λ k. k)) (λ p f. turn_holds (Turn o) p f)
+      (held_where_dying script (at (Turn o)) below o calm.stack.1 (λ f. turn_holds (Turn o) o f (inl refl))))
+      (λ entry e. gives_up (Turn o) (Turn o) (entry_references entry) (change (with_entries (without_last (entries_of v.objects o))) o v.objects)
       (entries_alter (without_last (entries_of v.objects o)) o v.objects) calm
       (λ d m l f. (entries_quiet d.object o (without_last (entries_of v.objects o)) (shorter_free v.objects o d.object f.unheld.quiet) v.objects f.unheld.quiet, turn_holds (Turn o) d.object f))
-      (λ p f. last_free v.objects o p entry f.unheld.quiet e) tt
-
-  after_turn_calm : (o : ℕ) → Calm script (at (AfterTurn o)) → Calm script (after_turn c o below (at (AfterTurn o))).1
-  after_turn_calm o calm =
-      let place = Gen (older c.generation) in
-      goes_to (AfterTurn o) Turns c (change (with_place place) o v.objects) v.numbers (place_alters place o v.objects) calm
-      (λ d m l f. (older_quiet (AfterTurn o) o place calm.over.0 d m f, λ k. k)) tt
-
-  end_calm : (events : List Event) (after : World) → EndStep script c below (at Ending) events after → Calm script (at Ending) → Calm script after
-  end_calm events after step calm = moves_to after now step.world (record {
+      (λ p f. last_free v.objects o p entry f.unheld.quiet e) tt))
+  phase_calm (AfterTurn o) events after step calm = moves_to after _ step.1 (after_turn_calm o calm)
+  phase_calm Ending events after step calm = moves_to after now step.world (record {
     referred = referred_after v.objects now.objects alters calm.referred;
     over = calm.over.1;
     stack = resting_stack script now below (resting_after script (at Ending) now below (λ d m. altered_keeps script (at Ending) now d.object alters
@@ -373,17 +348,3 @@ module _ (script : Script) (c : Collection) (below : List Activity) (v : World) 
           let x = Includes-map_cases (λ (z : Object). z.serial) (filter (is_saved script c) v.objects) p m in
           let was = Includes-filter_cases (is_saved script c) v.objects x.0 x.1 in
           quiet_apart p Legacy x.0 refl (and_parts (is_at Legacy x.0) _ was.1).0 (q x.0 was.0) x.2))
-
-  pub phase_calm : (phase : CollectPhase) (events : List Event) (after : World) → PhaseStep script c phase below (at phase) events after → Calm script (at phase) → Calm script after
-  phase_calm Start events after step calm = start_calm events after step calm
-  phase_calm (WeakClearing waiting) events after step calm = clearing_calm waiting events after step calm
-  phase_calm (WeakCalling waiting) events after step calm = moves_to after _ step.1 (calls_back_calm waiting calm)
-  phase_calm (AfterCallback weak waiting) events after step calm = moves_to after _ step.1 (after_callback_calm weak waiting calm)
-  phase_calm (AfterRelease weak waiting) events after step calm = moves_to after _ step.1 (after_release_calm weak waiting calm)
-  phase_calm Finalizing events after step calm = finalizing_calm events after step calm
-  phase_calm (AfterFinalizing o) events after step calm = moves_to after _ step.1 (after_finalizing_calm o calm)
-  phase_calm Split events after step calm = split_calm events after step calm
-  phase_calm Turns events after step calm = turns_calm events after step calm
-  phase_calm (Turn o) events after step calm = moves_to after _ step.1 (empties_calm o (last_entry (entries_of v.objects o)) refl calm)
-  phase_calm (AfterTurn o) events after step calm = moves_to after _ step.1 (after_turn_calm o calm)
-  phase_calm Ending events after step calm = end_calm events after step calm

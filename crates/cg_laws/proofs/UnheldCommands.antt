@@ -18,7 +18,7 @@ use Rattle.cg_graph.specs.Holdings.{name_holdings}
 use Rattle.cg_graph.proofs.Members.{either, Includes-append_left, Includes-append_right, Includes-append_cases, Includes-map, Includes-map_cases}
 use Rattle.cg_machine.specs.World.{World, Numbers, with_change}
 use Rattle.cg_machine.specs.Weak.{has_weak_references, is_instance, is_function}
-use Rattle.cg_machine.specs.Effects.{Effect, Changes, Calls, Collects, Explains, Quits, bound, with_new, given_up_by, replaced, frozen, unfrozen, tracked_by, may_track}
+use Rattle.cg_machine.specs.Effects.{Effect, Changes, Calls, bound, with_new, given_up_by, replaced, frozen, unfrozen, tracked_by, may_track}
 use Rattle.cg_machine.specs.Operands.{is_dict}
 use Rattle.cg_machine.specs.Collect.{is_condemned}
 use Rattle.cg_represents.proofs.Serials.{Rises}
@@ -26,10 +26,10 @@ use Rattle.cg_laws.proofs.Lookups.{same_object, references_of_member}
 use Rattle.cg_represents.specs.Orderly.{HasFunction}
 use Rattle.cg_laws.specs.Laws.{IsOfCollection}
 use Rattle.cg_laws.proofs.HeldLivesDeaths.{false_true}
-use Rattle.cg_laws.proofs.Unreferred.{IsQuiet, AreQuiet, Forgotten, Mortal, HasFinalizers, AreReferred, IsLater, later_refl, Alters, mortal_after, finalizers_after, change_alters, map_alters, place_later, map_quiet, test_quiet, entries_quiet, entries_alter, referred_after, still_forgotten, lives_within}
+use Rattle.cg_laws.proofs.Unreferred.{IsQuiet, AreQuiet, Forgotten, Mortal, HasFinalizers, AreReferred, IsLater, later_refl, Alters, mortal_after, finalizers_after, change_alters, map_alters, place_later, map_quiet, test_quiet, entries_quiet, entries_alter, referred_after, still_forgotten, lives_within, still_later}
 use Rattle.cg_laws.proofs.Unheld.{AreOver}
 use Rattle.cg_laws.proofs.CommandRefs.{all_free, HoldNone, option_free, entry_val, entry_key, entry_free, put_free, old_value_free, name_free, bound_free, IsKnown, operand_known}
-use Rattle.cg_represents.proofs.Shapes.{IsAtHand, NoneThere, Word, ValueIn, KeyIn, ReferentOf, HasObject, IsMutable, IsEdit, Shape, Binds, Makes, Edits, Puts, Shows, Tells, Stays, Sets, Freezes, Unfreezes, StartsFrame, StartsCollection, Ends, Inspects, AsksWhy}
+use Rattle.cg_represents.proofs.Shapes.{IsAtHand, NoneThere, Word, ValueIn, KeyIn, ReferentOf, HasObject, IsMutable, IsEdit, Shape, Binds, Makes, Edits, Puts, Sets, Freezes, Unfreezes, StartsFrame, StartsCollection, Ends, AsksWhy}
 
 -- a command changes no weak reference
 mutable_code : (x : Object) → IsMutable x.code → x.code ≢ Weak
@@ -39,8 +39,8 @@ pub tracked_later : (w : World) (key v : Val) (x : Object) → IsLater x (tracke
 tracked_later w key v x = go (is_dict x && not (is_tracked x) && (may_track w key || may_track w v))
   where
     go : (b : Bool) → IsLater x (if b then with_place (Gen 0) x else x)
-    go true = record { serial = refl; code = refl; class = refl; referent = inl refl }
-    go false = record { serial = refl; code = refl; class = refl; referent = inl refl }
+    go true = still_later
+    go false = still_later
 
 module _ (script : Script) (w : World) (rises : Rises 1 w.next_serial w.objects) (over : AreOver w.stack) where
   -- given-up references and referents are of no forgotten object
@@ -67,9 +67,7 @@ module _ (script : Script) (w : World) (rises : Rises 1 w.next_serial w.objects)
   abbrev pub IsMild : Effect → Type 0
   IsMild (Changes wants_memory lines given_up after) = Mild after given_up
   IsMild (Calls f) = (o : ℕ) → Forgotten w o → f ≢ o
-  IsMild (Collects g) = Unit {0}
-  IsMild (Explains o) = Unit {0}
-  IsMild Quits = Unit {0}
+  IsMild effect = Unit {0}
 
   names_mild : (names : List (Option Val)) (numbers : Numbers) (given_up : List ℕ) → ((o : ℕ) → Forgotten w o → ¬ Includes (name_holdings names) o) → AreGiven given_up
       → Mild (record w { names = names; numbers = numbers }) given_up
@@ -122,7 +120,7 @@ module _ (script : Script) (w : World) (rises : Rises 1 w.next_serial w.objects)
       → ((o : ℕ) → Forgotten w o → HoldNone o entries) → AreGiven given_up → Mild (with_change (with_entries entries) x.serial w) given_up
   sets_mild x entries given_up m code apart free given = changes_mild (change (with_entries entries) x.serial w.objects) w.numbers given_up
       (entries_alter entries x.serial w.objects) (λ o f. entries_quiet o x.serial entries (free o f) w.objects f.unheld.quiet) given
-      (comes_changed (with_entries entries) x m code apart (λ z. record { serial = refl; code = refl; class = refl; referent = inl refl }) (λ z k. k) (λ z k. refl))
+      (comes_changed (with_entries entries) x m code apart (λ z. still_later) (λ z k. k) (λ z k. refl))
 
   own_free : (x : Object) → Includes w.objects x → (o : ℕ) → Forgotten w o → HoldNone o x.entries
   own_free x m o f = (f.unheld.quiet x m).entries
@@ -309,14 +307,11 @@ module _ (script : Script) (w : World) (rises : Rises 1 w.next_serial w.objects)
       (object_apart command (λ y. true) x h) (edited_free command x entries given h.member edit) (edited_given command x entries given h.member edit)
   shape_mild command e (Puts x key v h mutable hand_key hand room) = puts_mild x key v h.member (mutable_code x mutable)
       (object_apart command (λ y. is_dict y || is_instance y) x h) (hand_known command key hand_key) (hand_known command v hand)
-  shape_mild command e (Shows v hand) = numbers_mild w.numbers
-  shape_mild command e (Tells line tells) = numbers_mild w.numbers
-  shape_mild command e Stays = numbers_mild w.numbers
   shape_mild command e (Sets numbers own keeps) = numbers_mild numbers
   shape_mild command e (Freezes is) = places_mild frozen _ refl frozen_condemned frozen_place
   shape_mild command e (Unfreezes is) = places_mild unfrozen _ refl unfrozen_condemned unfrozen_place
   shape_mild command e (StartsFrame f h) = object_apart command is_function f h
   shape_mild command e (StartsCollection g low) = tt
   shape_mild command e Ends = tt
-  shape_mild command e (Inspects lines calm there) = numbers_mild w.numbers
   shape_mild command e (AsksWhy x h calm) = tt
+  shape_mild command e shape = numbers_mild w.numbers

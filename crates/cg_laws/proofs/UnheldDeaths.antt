@@ -12,19 +12,19 @@ use Rattle.cg_graph.specs.Object.{Object, change, without, object_at, entries_of
 use Rattle.cg_graph.proofs.Members.{either, or_right, Includes-append_cases, Includes-map, Includes-map_cases, Includes-filter, Includes-filter_cases}
 use Rattle.cg_machine.specs.declared.event.FrameSort.TheVariants.{Del, Legacy, Callback}
 use Rattle.cg_machine.specs.declared.event.FrameSpec.{FrameSpec}
-use Rattle.cg_machine.specs.declared.event.Event.TheVariants.{Alive}
 use Rattle.cg_machine.specs.Program.{finalizer_of, legacy_of}
-use Rattle.cg_machine.specs.World.{push, World, Activity, Releasing, Dying, Death, DyingPhase, Finalizer, AfterFinalizer, Clearing, Calling, AfterCall, LegacyFinalizer, AfterLegacy, Detaching, Emptying, with_stack, with_change}
-use Rattle.cg_machine.specs.Frame.{Transition, start_frame, procedure_of}
+use Rattle.cg_machine.specs.World.{push, World, Activity, Releasing, Dying, Death, DyingPhase, Finalizer, AfterFinalizer, Clearing, Calling, AfterCall, LegacyFinalizer, AfterLegacy, Detaching, Emptying, with_stack}
+use Rattle.cg_machine.specs.Frame.{start_frame, procedure_of}
 use Rattle.cg_machine.specs.Holdings.{holds, call_holds, dying_holds, in_degree}
 use Rattle.cg_machine.specs.Weak.{has_weak_references, weak_references_if, loses_referent, callback_of}
-use Rattle.cg_machine.specs.Dying.{death_at, has_finalizers, finalizer_to_run, run_finalizer, run_legacy, after_frame, clear_one, call_one, detach_one, empty_one, dying}
+use Rattle.cg_machine.specs.Dying.{death_at, has_finalizers, finalizer_to_run, run_finalizer, run_legacy, after_frame, clear_one, detach_one, empty_one, dying}
 use Rattle.cg_represents.proofs.Serials.{Rises}
 use Rattle.cg_laws.proofs.MeasureInDeaths.{refers_first}
-use Rattle.cg_laws.proofs.Unreferred.{IsQuiet, AreQuiet, Unheld, NoneRefers, Forgotten, Mortal, HasFinalizers, Alters, alters_refl, change_alters, test_quiet, untracked_quiet, place_quiet, entries_quiet, lost_quiet, lost_alters, entries_alter, place_alters, mortal_after, finalizers_after, unreferred_after, referred_after, lives_after, still_unheld, still_forgotten}
+use Rattle.cg_laws.proofs.Unreferred.{IsQuiet, AreQuiet, Unheld, NoneRefers, Forgotten, Mortal, HasFinalizers, Alters, alters_refl, change_alters, test_quiet, untracked_quiet, place_quiet, entries_quiet, lost_quiet, lost_alters, entries_alter, place_alters, mortal_after, finalizers_after, unreferred_after, referred_after, lives_after, still_unheld, still_forgotten, still_later}
 use Rattle.cg_laws.proofs.Unheld.{IsLocalHeld, AreResting, Rests, Stands, Calm, Keeps, resting_stack, resting_after, altered_keeps, same_objects, popped_free, top_free, pushed_free, turned_free, not_dying}
 use Rattle.cg_laws.proofs.Lookups.{at_member, found_lives, last_free, last_lives, shorter_free, callback_free, none_found, found_referent}
 use Rattle.cg_laws.proofs.Releasing.{HeldByNone, none_holds, starts_calm}
+use Rattle.cg_laws.proofs.Starting.{own_frame_either, option_either}
 
 pub some_not_none : {X : Type 0} (m : Option X) → is_some m ≡ true → m ≢ None
 some_not_none m some none = let no : false ≡ true = ap (λ k. is_some k) (sym none) ∙ some in cc
@@ -88,7 +88,7 @@ module _ (script : Script) (o : ℕ) (below : List Activity) (v : World) (rises 
   revived x = marked (with_place (Gen 0) x)
 
   revived_alters : Alters v.objects (change revived o v.objects)
-  revived_alters = change_alters revived (λ x. record { serial = refl; code = refl; class = refl; referent = inl refl }) o v.objects
+  revived_alters = change_alters revived (λ x. still_later) o v.objects
 
   revived_quiet : (p : ℕ) → o ≢ p → AreQuiet p v.objects → AreQuiet p (change revived o v.objects)
   revived_quiet p apart q = test_quiet p revived (λ x. x.serial == o)
@@ -105,21 +105,15 @@ module _ (script : Script) (o : ℕ) (below : List Activity) (v : World) (rises 
       go None i k = absurd (let no : None ≡ Some p = k in cc)
       go (Some x) i k = (x, i, k)
 
-  finalizer_calm : (m : Option ℕ) → option_and_then (finalizer_to_run script) (object_at v.objects o) ≡ m → Calm script (at Finalizer) → Calm script (run_finalizer script o below (at Finalizer) m).1
-  finalizer_calm None e c =
-      goes_to Finalizer (Clearing []) v.objects (alters_refl v.objects) c (λ d m l f. (f.unheld.quiet, λ k. k))
-      (still_unheld (at Finalizer) (at (Clearing [])) o refl (λ q. q) (turn_free Finalizer (Clearing []) o (λ h. h)) c.stack.0, λ h. absurd (h refl))
-  finalizer_calm (Some p) e c =
-      let found = lives_where (finalizer_to_run script) p e in
-      calls Finalizer AfterFinalizer (record { sort = Del; proc = p; subject = o; func = None }) (change revived o v.objects) revived_alters c
-      (λ d m l f. (revived_quiet d.object (λ i. other Finalizer c d m (sym i)) f.unheld.quiet, λ k. either k (λ i. other Finalizer c d m (sym i)) (λ n. n)))
-      (mortal_after v.objects (change revived o v.objects) revived_alters o (mortal Finalizer c.stack.0 (found_lives v.objects o found.0 found.1)))
-      (inl refl) (λ p k. k)
-
   after_frame_calm : (phase next : DyingPhase) → Mortal v.objects o → ((p : ℕ) → ¬ Includes (dying_holds o next) p)
       → (Unheld (to next (change (with_place Untracked) o v.objects)) o → Stands script (to next (change (with_place Untracked) o v.objects)) o next)
       → Calm script (at phase) → Calm script (after_frame o next below (at phase)).1
-  after_frame_calm phase next mortal none stands c = go (in_degree (at next) o == 0) refl
+  after_frame_calm phase next mortal none stands c = own_frame_either (λ lines. Calm script) o next below (at phase)
+      (λ e. goes_to phase next objects (place_alters Untracked o v.objects) c (λ d m l f. (
+        untracked_quiet d.object o v.objects f.unheld.quiet,
+        none d.object,
+      )) (stands (unheld (none_holds (at next) o (eqb-true (in_degree (at next) o) 0 e)))))
+      (λ e. ended)
     where
       objects : List Object
       objects = change (with_place Untracked) o v.objects
@@ -147,14 +141,6 @@ module _ (script : Script) (o : ℕ) (below : List Activity) (v : World) (rises 
         stack = resting_stack script (with_stack below v) below (resting_after script (at phase) (with_stack below v) below
             (λ d m. same_objects script (at phase) (with_stack below v) d.object refl refl (popped_free (dying_now phase) below d.object)) c.stack.1);
       }
-
-      go : (b : Bool) → (in_degree (at next) o == 0) ≡ b → (let t : Transition = if b then ([], with_change (with_place Untracked) o (at next))
-          else (Alive o ∷ [], with_stack below (at phase)) in Calm script t.1)
-      go true e = goes_to phase next objects (place_alters Untracked o v.objects) c (λ d m l f. (
-        untracked_quiet d.object o v.objects f.unheld.quiet,
-        none d.object,
-      )) (stands (unheld (none_holds (at next) o (eqb-true (in_degree (at next) o) 0 e))))
-      go false e = ended
 
   keeps_lost : (phase next : DyingPhase) (weak : ℕ) → ((p : ℕ) → Mortal v.objects p → ¬ Includes (dying_holds o phase) p → ¬ Includes (dying_holds o next) p)
       → (d : Death) → Includes below (Dying d) → Mortal v.objects d.object → Forgotten (at phase) d.object → AreQuiet d.object (loses_referent weak v.objects)
@@ -198,63 +184,6 @@ module _ (script : Script) (o : ℕ) (below : List Activity) (v : World) (rises 
 
       y : (x : Object) × Includes v.objects x × (x.serial ≡ weak) × (is_some x.referent ≡ true)
       y = refers_first has_weak_references v.objects o weak weaks e
-
-  calling_calm : (waiting : List ℕ) → Calm script (at (Calling waiting)) → Calm script (call_one script o below (at (Calling waiting)) waiting).1
-  calling_calm [] c =
-      goes_to (Calling []) LegacyFinalizer v.objects (alters_refl v.objects) c (λ d m l f. (f.unheld.quiet, λ k. k))
-      (still_forgotten (at (Calling [])) (at LegacyFinalizer) o refl (alters_refl v.objects) (λ q. q) (turn_free (Calling []) LegacyFinalizer o (λ h. h)) c.stack.0.0)
-  calling_calm (weak ∷ waiting) c =
-      calls (Calling (weak ∷ waiting)) next (record { sort = Callback; proc = procedure_of (at (Calling (weak ∷ waiting))) callback; subject = weak; func = Some callback }) objects alters c
-      (λ d m l f. (entries_quiet d.object weak [] (λ k. k) v.objects f.unheld.quiet, held d.object l f.unheld.quiet (top_free (dying_now (Calling (weak ∷ waiting))) below d.object f.unheld.stack))) (
-        mortal_after v.objects objects alters o lives,
-        still_forgotten (at (Calling (weak ∷ waiting))) (to next objects) o refl alters (entries_quiet o weak [] (λ k. k) v.objects)
-            (turn_free (Calling (weak ∷ waiting)) next o (held o lives c.stack.0.0.unheld.quiet)) c.stack.0.0,
-      )
-      (inr (inl refl)) (λ p k. k)
-    where
-      callback : ℕ
-      callback = unwrap_or (callback_of v.objects weak) 0
-
-      next : DyingPhase
-      next = AfterCall weak callback waiting
-
-      objects : List Object
-      objects = change (with_entries []) weak v.objects
-
-      alters : Alters v.objects objects
-      alters = entries_alter [] weak v.objects
-
-      lives : Mortal v.objects o
-      lives = c.stack.0.1 (λ e. let no : weak ∷ waiting ≡ [] = e in cc)
-
-      held : (p : ℕ) → Mortal v.objects p → AreQuiet p v.objects → ¬ Includes (weak ∷ waiting) p → ¬ Includes (callback ∷ weak ∷ waiting) p
-      held p l q free k = either k (callback_free 0 v.next_serial v.objects weak p rises l.lives q) free
-
-  after_call_calm : (weak callback : ℕ) (waiting : List ℕ) → Calm script (at (AfterCall weak callback waiting)) → Calm script (push (Releasing (callback ∷ weak ∷ [])) (at (Calling waiting)))
-  after_call_calm weak callback waiting c = record {
-    referred = c.referred;
-    over = (tt, c.over);
-    stack = (
-      tt,
-      λ d m. either m (λ e. subst (λ (x : Death). Rests script after x.object x.phase) (death_is d e) (c.stack.0.0, forgotten o c.stack.0.1))
-          (λ k. resting_after script before after below (λ e n. altered_keeps script before after e.object (alters_refl v.objects) (λ l f. forgotten e.object f))
-          c.stack.1 d k),
-    );
-  }
-    where
-      before : World
-      before = at (AfterCall weak callback waiting)
-
-      after : World
-      after = push (Releasing (callback ∷ weak ∷ [])) (at (Calling waiting))
-
-      death_is : (d : Death) → dying_now (Calling waiting) ≡ Dying d → record { object = o; phase = Calling waiting } ≡ d
-      death_is d e = cc
-
-      forgotten : (p : ℕ) → Forgotten before p → Forgotten after p
-      forgotten p f = still_forgotten before after p refl (alters_refl v.objects) (λ q. q) (λ free.
-          pushed_free (Releasing (callback ∷ weak ∷ [])) (dying_now (Calling waiting) ∷ below) p (λ k. free (either k (λ e. inl e) (λ n. either n (λ e. inr (inl e)) (λ i. absurd i))))
-          (turn_free (AfterCall weak callback waiting) (Calling waiting) p (λ h k. h (inr (inr k))) free)) f
 
   legacy_calm : (m : Option ℕ) → option_and_then (legacy_of script) (object_at v.objects o) ≡ m → Calm script (at LegacyFinalizer) → Calm script (run_legacy script o below (at LegacyFinalizer) m).1
   legacy_calm None e c =
@@ -355,11 +284,69 @@ module _ (script : Script) (o : ℕ) (below : List Activity) (v : World) (rises 
           (pushed_free (Releasing (entry_references entry)) (dying_now Emptying ∷ below) p (last_free v.objects o p entry f.unheld.quiet e)) f
 
   pub dying_calm : (phase : DyingPhase) → Calm script (at phase) → Calm script (dying script o phase below (at phase)).1
-  dying_calm Finalizer c = finalizer_calm (option_and_then (finalizer_to_run script) (object_at v.objects o)) refl c
+  dying_calm Finalizer c = option_either (λ lines. Calm script) (run_finalizer script o below (at Finalizer)) (option_and_then (finalizer_to_run script) (object_at v.objects o))
+      (λ e. goes_to Finalizer (Clearing []) v.objects (alters_refl v.objects) c (λ d m l f. (f.unheld.quiet, λ k. k))
+      (still_unheld (at Finalizer) (at (Clearing [])) o refl (λ q. q) (turn_free Finalizer (Clearing []) o (λ h. h)) c.stack.0, λ h. absurd (h refl)))
+      (λ p e. let found = lives_where (finalizer_to_run script) p e in
+      calls Finalizer AfterFinalizer (record { sort = Del; proc = p; subject = o; func = None }) (change revived o v.objects) revived_alters c
+      (λ d m l f. (revived_quiet d.object (λ i. other Finalizer c d m (sym i)) f.unheld.quiet, λ k. either k (λ i. other Finalizer c d m (sym i)) (λ n. n)))
+      (mortal_after v.objects (change revived o v.objects) revived_alters o (mortal Finalizer c.stack.0 (found_lives v.objects o found.0 found.1)))
+      (inl refl) (λ p k. k))
   dying_calm AfterFinalizer c = after_frame_calm AfterFinalizer (Clearing []) c.stack.0 (λ p k. k) (λ h. (h, λ n. absurd (n refl))) c
   dying_calm (Clearing waiting) c = clearing_calm waiting (weak_references_if has_weak_references v.objects o) refl c
-  dying_calm (Calling waiting) c = calling_calm waiting c
-  dying_calm (AfterCall weak callback waiting) c = after_call_calm weak callback waiting c
+  dying_calm (Calling []) c =
+      goes_to (Calling []) LegacyFinalizer v.objects (alters_refl v.objects) c (λ d m l f. (f.unheld.quiet, λ k. k))
+      (still_forgotten (at (Calling [])) (at LegacyFinalizer) o refl (alters_refl v.objects) (λ q. q) (turn_free (Calling []) LegacyFinalizer o (λ h. h)) c.stack.0.0)
+  dying_calm (Calling (weak ∷ waiting)) c =
+      calls (Calling (weak ∷ waiting)) next (record { sort = Callback; proc = procedure_of (at (Calling (weak ∷ waiting))) callback; subject = weak; func = Some callback }) objects alters c
+      (λ d m l f. (entries_quiet d.object weak [] (λ k. k) v.objects f.unheld.quiet, held d.object l f.unheld.quiet (top_free (dying_now (Calling (weak ∷ waiting))) below d.object f.unheld.stack))) (
+        mortal_after v.objects objects alters o lives,
+        still_forgotten (at (Calling (weak ∷ waiting))) (to next objects) o refl alters (entries_quiet o weak [] (λ k. k) v.objects)
+            (turn_free (Calling (weak ∷ waiting)) next o (held o lives c.stack.0.0.unheld.quiet)) c.stack.0.0,
+      )
+      (inr (inl refl)) (λ p k. k)
+    where
+      callback : ℕ
+      callback = unwrap_or (callback_of v.objects weak) 0
+
+      next : DyingPhase
+      next = AfterCall weak callback waiting
+
+      objects : List Object
+      objects = change (with_entries []) weak v.objects
+
+      alters : Alters v.objects objects
+      alters = entries_alter [] weak v.objects
+
+      lives : Mortal v.objects o
+      lives = c.stack.0.1 (λ e. let no : weak ∷ waiting ≡ [] = e in cc)
+
+      held : (p : ℕ) → Mortal v.objects p → AreQuiet p v.objects → ¬ Includes (weak ∷ waiting) p → ¬ Includes (callback ∷ weak ∷ waiting) p
+      held p l q free k = either k (callback_free 0 v.next_serial v.objects weak p rises l.lives q) free
+  dying_calm (AfterCall weak callback waiting) c = record {
+    referred = c.referred;
+    over = (tt, c.over);
+    stack = (
+      tt,
+      λ d m. either m (λ e. subst (λ (x : Death). Rests script after x.object x.phase) (death_is d e) (c.stack.0.0, forgotten o c.stack.0.1))
+          (λ k. resting_after script before after below (λ e n. altered_keeps script before after e.object (alters_refl v.objects) (λ l f. forgotten e.object f))
+          c.stack.1 d k),
+    );
+  }
+    where
+      before : World
+      before = at (AfterCall weak callback waiting)
+
+      after : World
+      after = push (Releasing (callback ∷ weak ∷ [])) (at (Calling waiting))
+
+      death_is : (d : Death) → dying_now (Calling waiting) ≡ Dying d → record { object = o; phase = Calling waiting } ≡ d
+      death_is d e = cc
+
+      forgotten : (p : ℕ) → Forgotten before p → Forgotten after p
+      forgotten p f = still_forgotten before after p refl (alters_refl v.objects) (λ q. q) (λ free.
+          pushed_free (Releasing (callback ∷ weak ∷ [])) (dying_now (Calling waiting) ∷ below) p (λ k. free (either k (λ e. inl e) (λ n. either n (λ e. inr (inl e)) (λ i. absurd i))))
+          (turn_free (AfterCall weak callback waiting) (Calling waiting) p (λ h k. h (inr (inr k))) free)) f
   dying_calm LegacyFinalizer c = legacy_calm (option_and_then (legacy_of script) (object_at v.objects o)) refl c
   dying_calm AfterLegacy c = after_frame_calm AfterLegacy Detaching c.stack.0.0 (λ p k. k)
       (λ h. (h, inl (finalizers_after script v.objects (change (with_place Untracked) o v.objects) (place_alters Untracked o v.objects) o c.stack.0.1))) c

@@ -7,7 +7,7 @@ use Rattle.cg_graph.specs.Object.{Object}
 use Rattle.cg_graph.proofs.Members.{either}
 use Rattle.cg_machine.specs.declared.event.Event.{Event}
 use Rattle.cg_machine.specs.declared.event.FrameSort.TheVariants.{Call as CallFrame}
-use Rattle.cg_machine.specs.World.{World, Activity, TopLevel, Framed, Releasing, Dying, Death, DyingPhase, Finalizer, AfterFinalizer, Clearing, Calling, AfterCall, LegacyFinalizer, AfterLegacy, Detaching, Emptying, Ended, opening, garbage_list, push, with_stack, ShuttingDown}
+use Rattle.cg_machine.specs.World.{World, Activity, TopLevel, Framed, Releasing, Dying, Death, DyingPhase, Finalizer, AfterFinalizer, Calling, AfterCall, LegacyFinalizer, AfterLegacy, Emptying, Ended, opening, garbage_list, push, with_stack, ShuttingDown}
 use Rattle.cg_machine.specs.Holdings.{holds, holdings}
 use Rattle.cg_machine.specs.Frame.{procedure_of}
 use Rattle.cg_machine.specs.Effects.{Changes, Calls}
@@ -159,13 +159,12 @@ stands_unheld : (script : Script) (w : World) (o : ℕ) (phase : DyingPhase) →
     → Stands script w o phase → IsHeldInItsFramesAlone o phase (holdings w)
 stands_unheld script w o Finalizer m h = unheld_degree w o h
 stands_unheld script w o AfterFinalizer m h = λ e. (none_holds w o e).stack (held_by_member w.stack (Dying (record { object = o; phase = AfterFinalizer })) o m (inl refl))
-stands_unheld script w o (Clearing waiting) m h = unheld_degree w o h.0
 stands_unheld script w o (Calling waiting) m h = unheld_degree w o h.0.unheld
 stands_unheld script w o (AfterCall weak callback waiting) m h = unheld_degree w o h.1.unheld
 stands_unheld script w o LegacyFinalizer m h = unheld_degree w o h.unheld
 stands_unheld script w o AfterLegacy m h = λ e. (none_holds w o e).stack (held_by_member w.stack (Dying (record { object = o; phase = AfterLegacy })) o m (inl refl))
-stands_unheld script w o Detaching m h = unheld_degree w o h.0
 stands_unheld script w o Emptying m h = unheld_degree w o h.unheld
+stands_unheld script w o phase m h = unheld_degree w o h.0
 
 pub death_stands : (script : Script) (w : World) (stack : List Activity) → IsStack script w stack → (d : Death) → Includes stack (Dying d) → Stands script w d.object d.phase
 death_stands script w [] h d m = absurd m

@@ -68,8 +68,15 @@ pub record Alters (before after : List Object) : Type 0 where
   pub origin : Came IsLater before after
   pub lasts : Lasts IsLater before after
 
+-- another place, mark or entries
+pub still_later : {p : Place} {b : Bool} {es : List Entry} {x : Object} → IsLater x (record x { place = p; finalized = b; entries = es })
+still_later = record { serial = refl; code = refl; class = refl; referent = inl refl }
+
+pub lost_later : {p : Place} {b : Bool} {es : List Entry} {x : Object} → IsLater x (record x { place = p; finalized = b; entries = es; referent = None })
+lost_later = record { serial = refl; code = refl; class = refl; referent = inr refl }
+
 pub later_refl : (x : Object) → IsLater x x
-later_refl x = record { serial = refl; code = refl; class = refl; referent = inl refl }
+later_refl x = still_later
 
 pub later_trans : (x y z : Object) → IsLater x y → IsLater y z → IsLater x z
 later_trans x y z h k = record {
@@ -98,7 +105,7 @@ pub change_alters : (f : Object → Object) → ((x : Object) → IsLater x (f x
 change_alters f h s objects = if_alters f h (λ x. x.serial == s) objects
 
 pub place_later : (p : Place) (x : Object) → IsLater x (with_place p x)
-place_later p x = record { serial = refl; code = refl; class = refl; referent = inl refl }
+place_later p x = still_later
 
 pub lives_after : (before after : List Object) → Alters before after → (o : ℕ) → Includes (serials before) o → Includes (serials after) o
 lives_after before after a = lasts_lives IsLater (λ x y k. k.serial) before after a.lasts
@@ -162,10 +169,10 @@ pub lost_quiet : (o s : ℕ) (objects : List Object) → AreQuiet o objects → 
 lost_quiet o s objects q = test_quiet o (with_referent None) (λ x. x.serial == s) (λ x e k. record { entries = k.entries; untracked = k.untracked; refers_to_none = λ i. refl }) objects q
 
 pub lost_alters : (s : ℕ) (objects : List Object) → Alters objects (loses_referent s objects)
-lost_alters s objects = change_alters (with_referent None) (λ x. record { serial = refl; code = refl; class = refl; referent = inr refl }) s objects
+lost_alters s objects = change_alters (with_referent None) (λ x. lost_later) s objects
 
 pub entries_alter : (es : List Entry) (s : ℕ) (objects : List Object) → Alters objects (change (with_entries es) s objects)
-entries_alter es s objects = change_alters (with_entries es) (λ x. record { serial = refl; code = refl; class = refl; referent = inl refl }) s objects
+entries_alter es s objects = change_alters (with_entries es) (λ x. still_later) s objects
 
 pub place_alters : (p : Place) (s : ℕ) (objects : List Object) → Alters objects (change (with_place p) s objects)
 place_alters p s objects = change_alters (with_place p) (place_later p) s objects

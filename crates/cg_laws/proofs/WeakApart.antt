@@ -14,7 +14,7 @@ use Rattle.cg_machine.specs.declared.event.Event.{Event}
 use Rattle.cg_machine.specs.declared.event.FrameSort.TheVariants.{Callback}
 use Rattle.cg_machine.specs.World.{World, Activity, Releasing, Collection, CollectPhase, WeakClearing, WeakCalling, AfterCallback, AfterRelease, Finalizing, push, with_change, with_objects}
 use Rattle.cg_machine.specs.Holdings.{holds}
-use Rattle.cg_machine.specs.Frame.{Transition, procedure_of}
+use Rattle.cg_machine.specs.Frame.{procedure_of}
 use Rattle.cg_machine.specs.Weak.{loses_referent, callback_of}
 use Rattle.cg_represents.specs.Orderly.{IsOrderly, all_waits}
 use Rattle.cg_machine.specs.Collect.{collection_at, older, waits, ClearsOne, WeakClearingStep, calls_back, after_release}
@@ -22,6 +22,7 @@ use Rattle.cg_laws.specs.Apart.{IsInWeakPhase, IsGarbageList, IsApart}
 use Rattle.cg_laws.proofs.SetsApart.{NoneCollects, AreApart, goes_to, restands, starts_apart, gives_up_apart, places_kept, moved, lost_apart}
 use Rattle.cg_machine.specs.Program.{profile_of}
 use Rattle.cg_laws.proofs.Clearing.{refers_early}
+use Rattle.cg_laws.proofs.Starting.{called_back_either}
 
 -- the garbage list is no weak reference
 no_weak : (x : Object) → IsGarbageList x → x.code ≢ Weak
@@ -128,7 +129,10 @@ module _ (script : Script) (c : Collection) (below : List Activity) (v : World) 
       (restands (AfterCallback weak waiting) (AfterRelease weak waiting) v.objects h.unhandled (λ x m k. k) h))
 
   pub after_release_apart : (weak : ℕ) (waiting : List ℕ) → AreApart v.objects (AfterRelease weak waiting) → IsApart (after_release c weak waiting below (at (AfterRelease weak waiting))).1
-  after_release_apart weak waiting h = go (is_in_map v.objects weak) refl
+  after_release_apart weak waiting h = called_back_either (λ lines. IsApart) c weak waiting below (at (AfterRelease weak waiting))
+      (λ e. goes_to c (WeakCalling waiting) below (with_change (with_place place) weak (at (AfterRelease weak waiting))) alone lives)
+      (λ e. goes_to (record c { collected = c.collected + 1 }) (WeakCalling waiting) below v alone (restands (AfterRelease weak waiting)
+      (WeakCalling waiting) v.objects (λ k. k) (λ x m k. others x (none_at v.objects weak x e m) k) h))
     where
       place : Place
       place = Gen (older c.generation)
@@ -144,11 +148,3 @@ module _ (script : Script) (c : Collection) (below : List Activity) (v : World) 
             others = λ x m t k. others x (λ e. let no : true ≡ false = sym (eq-eqb x.serial weak e) ∙ t in cc) k;
             found = λ x m t k n. k;
           }) h
-
-      go : (b : Bool) → is_in_map v.objects weak ≡ b
-          → (let t : Transition = if b
-          then ([], collection_at c (WeakCalling waiting) below (with_change (with_place place) weak (at (AfterRelease weak waiting))))
-          else ([], collection_at (record c { collected = c.collected + 1 }) (WeakCalling waiting) below (at (AfterRelease weak waiting))) in IsApart t.1)
-      go true e = goes_to c (WeakCalling waiting) below (with_change (with_place place) weak (at (AfterRelease weak waiting))) alone lives
-      go false e = goes_to (record c { collected = c.collected + 1 }) (WeakCalling waiting) below v alone (restands (AfterRelease weak waiting)
-          (WeakCalling waiting) v.objects (λ k. k) (λ x m k. others x (none_at v.objects weak x e m) k) h)

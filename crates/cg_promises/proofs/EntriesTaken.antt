@@ -1,7 +1,6 @@
 -- Which steps take entries: a release takes none, a death those of its object and of the weak reference that it calls back, a
 -- collection those of the member that has its turn.
-use Rattle.std.proofs.Common.{◌≡◌, refl, sym, ◌∙◌, ap, subst, ℕ, Bool, true, false, not, inl, inr, ◌⊎◌, List, [], ◌∷◌, ◌++◌, map}
-use Rattle.std.specs.Prelude.{◌==◌, if◌then◌else◌}
+use Rattle.std.proofs.Common.{◌≡◌, refl, sym, ◌∙◌, ap, subst, ℕ, inl, inr, ◌⊎◌, List, [], ◌∷◌, ◌++◌}
 use Rattle.std.proofs.lemmas.List.{append-nil, append_assoc}
 use Rattle.cg_value.specs.declared.Val.TheVariants.{Ref}
 use Rattle.cg_script.specs.declared.Script.{Script}
@@ -54,14 +53,12 @@ owned_only P Q before after h l y m = let x = l y m in (x.0, x.1, (x.2.0, either
 
 -- the weak reference that a death calls back
 abbrev pub CallsBack : DyingPhase → ℕ → Type 0
-CallsBack (Calling []) n = ⊥
 CallsBack (Calling (weak ∷ waiting)) n = weak ≡ n
 CallsBack phase n = ⊥
 
 owned_by_release : (top : Activity) (n : ℕ) → Owns top n → (refs : List ℕ) → top ≡ Releasing refs → ⊥
 owned_by_release top n (OfEmptied o) refs e = cc
-owned_by_release top n (OfCalled o weak waiting) refs e = cc
-owned_by_release top n (OfTurn c o t) refs e = cc
+owned_by_release top n other refs e = cc
 
 owned_by_death : (top : Activity) (n : ℕ) → Owns top n → (d : Death) → top ≡ Dying d → (d.object ≡ n) ⊎ CallsBack d.phase n
 owned_by_death top n (OfEmptied o) d e = let same : record { object = o; phase = Emptying } ≡ d = cc in inl (ap (λ (z : Death). z.object) (sym same))
@@ -70,8 +67,7 @@ owned_by_death top n (OfTurn c o t) d e = absurd (cc)
 
 owned_by_collection : (top : Activity) (n : ℕ) → Owns top n → (c : Collection) → top ≡ Collecting c → c.phase ≡ Turn n
 owned_by_collection top n (OfTurn b o t) c e = let same : b ≡ c = cc in subst (λ (z : Collection). z.phase ≡ Turn o) same t
-owned_by_collection top n (OfEmptied o) c e = absurd (cc)
-owned_by_collection top n (OfCalled o weak waiting) c e = absurd (cc)
+owned_by_collection top n other c e = absurd (cc)
 
 pub released_lengthens : (refs : List ℕ) (below : List Activity) (script : Script) (v : World) → Lengthens Nowhere v.objects (released refs below (with_stack (Releasing refs ∷ below) v)).1.objects
 released_lengthens refs below script v = owned_only (Owns (Releasing refs)) Nowhere v.objects _ (λ n o. owned_by_release (Releasing refs) n o refs refl)

@@ -6,6 +6,7 @@ use Rattle.std.specs.Prelude.{◌==◌, ◌||◌, if◌then◌else◌, is_some}
 use Rattle.std.specs.List.{list_any}
 use Rattle.std.proofs.lemmas.Bool.{eqb-true}
 use Rattle.cg_value.specs.declared.Val.{Val}
+use Rattle.cg_value.specs.declared.Entry.{Entry}
 use Rattle.cg_value.specs.declared.Place.{Place}
 use Rattle.cg_value.specs.declared.Place.TheVariants.{Cand, Gen, Legacy, Untracked}
 use Rattle.cg_value.specs.declared.KindCode.TheVariants.{Tuple}
@@ -19,14 +20,15 @@ use Rattle.cg_machine.specs.declared.event.Event.{Event}
 use Rattle.cg_machine.specs.declared.event.Event.TheVariants.{BudgetSpent, Enter, Free}
 use Rattle.cg_machine.specs.declared.event.FrameSpec.{FrameSpec}
 use Rattle.cg_machine.specs.Program.{finalizer_of, legacy_of}
-use Rattle.cg_machine.specs.World.{World, Activity, TopLevel, Framed, Releasing, Dying, Death, Collecting, Collection, CollectPhase, Turns, Turn, AfterTurn, Ending, ShuttingDown}
+use Rattle.cg_machine.specs.World.{World, Activity, Framed, Dying, Death, Collecting, Collection, CollectPhase, Turns, Turn, AfterTurn, Ending}
 use Rattle.cg_machine.specs.Holdings.{dying_holds, holds, is_collection, is_death_of}
 use Rattle.cg_machine.specs.Frame.{Transition, Yields, start_frame}
 use Rattle.cg_machine.specs.Weak.{loses_referent}
 use Rattle.cg_machine.specs.Collect.{has_flag, save_all}
 use Rattle.cg_laws.specs.Laws.{is_stop, named}
 use Rattle.cg_laws.proofs.Starting.{begun_frame, starts_either}
-use Rattle.cg_laws.proofs.Unreferred.{IsLater, some_later, none_later}
+use Rattle.cg_laws.proofs.Unreferred.{IsLater, some_later, none_later, still_later, lost_later}
+use Rattle.cg_represents.proofs.Lists.{each_changed}
 
 -- the phases after the second reachability pass
 abbrev pub IsLate : CollectPhase → Type 0
@@ -38,12 +40,10 @@ IsLate phase = ⊥
 
 -- what an activity may do with members
 abbrev pub Fits : List ℕ → Activity → Type 0
-Fits members (TopLevel commands) = Unit {0}
 Fits members (Framed f) = (¬ Includes members f.subject) × ((g : ℕ) → f.function ≡ Some g → ¬ Includes members g)
-Fits members (Releasing references) = Unit {0}
 Fits members (Dying d) = (n : ℕ) → Includes (dying_holds d.object d.phase) n → ¬ Includes members n
-Fits members (ShuttingDown started) = Unit {0}
 Fits members (Collecting c) = IsLate c.phase × (has_flag c.flags save_all ≡ false)
+Fits members a = Unit {0}
 
 -- an activity below the collection holds no member and is the death of none
 pub record IsOutOf (members : List ℕ) (a : Activity) : Type 0 where
@@ -104,6 +104,9 @@ pub record IsLesser (x y : Object) : Type 0 where
   pub finalized : x.finalized ≡ true → y.finalized ≡ true
   pub place : y.place ≡ Legacy → x.place ≡ Legacy
 
+pub same_lesser : {es : List Entry} {x : Object} → IsLesser x (record x { entries = es })
+same_lesser = record { later = still_later; finalized = λ e. e; place = λ e. e }
+
 -- entries that hold no member
 abbrev pub IsClean : List ℕ → Object → Type 0
 IsClean members y = (o : ℕ) → Includes members o → ¬ Includes (references y.entries) o
@@ -146,9 +149,6 @@ done_later script x y l h = record {
     legacy : legacy_of script y ≡ legacy_of script x
     legacy = let c : y.code ≡ x.code = l.later.code in let k : y.class ≡ x.class = l.later.class in cc
 
-pub same_shrinks : (objects : List Object) → Shrinks objects objects
-same_shrinks objects y m = (y, m, record { later = record { serial = refl; code = refl; class = refl; referent = inl refl }; finalized = λ e. e; place = λ e. e }, (λ n k. k, λ e. e))
-
 pub record IsMeek (f : Object → Object) : Type 0 where
   pub lesser : (x : Object) → IsLesser x (f x)
   pub fewer : (x : Object) → Fewer x (f x)
@@ -160,7 +160,7 @@ if_shrinks f h test objects y m = let x = Includes-map_cases (λ x. if test x th
   where
     one : (b : Bool) (x : Object) → IsLesser x (if b then f x else x) × Fewer x (if b then f x else x)
     one true x = (h.lesser x, h.fewer x)
-    one false x = (record { later = record { serial = refl; code = refl; class = refl; referent = inl refl }; finalized = λ e. e; place = λ e. e }, (λ n k. k, λ e. e))
+    one false x = (same_lesser, (λ n k. k, λ e. e))
 
 pub change_shrinks : (f : Object → Object) → IsMeek f → (o : ℕ) (objects : List Object) → Shrinks objects (change f o objects)
 change_shrinks f h o objects = if_shrinks f h (λ x. x.serial == o) objects
@@ -174,7 +174,7 @@ untracked_apart e = cc
 pub lost_shrinks : (weak : ℕ) (objects : List Object) → Shrinks objects (loses_referent weak objects)
 lost_shrinks weak objects = change_shrinks (with_referent None)
     (record {
-      lesser = λ x. record { later = record { serial = refl; code = refl; class = refl; referent = inr refl }; finalized = λ e. e; place = λ e. e };
+      lesser = λ x. record { later = lost_later; finalized = λ e. e; place = λ e. e };
       fewer = λ x. (λ n k. k, λ e. e);
     }) weak objects
 
@@ -188,13 +188,19 @@ one_out members event h e (inr none) n m k = absurd none
 pub one_still : (members : List ℕ) (event : Event) → is_stop event ≡ false → ((n : ℕ) → Includes (named event) n → Includes members n → event ≡ Free n) → TellsStill members (event ∷ [])
 one_still members event still h = (one_out members event h, λ e m. either m (λ i. subst (λ x. is_stop x ≡ false) i still) (λ none. absurd none))
 
+pub shrunk : (members : List ℕ) (before after : List Object) {next : ℕ} → Shrinks before after → (y : Object) → Includes after y → Comes members before next y
+shrunk members before after shrinks y m = let x = shrinks y m in inl (x.0, x.1, x.2, inl x.3)
+
+pub all_same : (members : List ℕ) (objects : List Object) {next : ℕ} → (y : Object) → Includes objects y → Comes members objects next y
+all_same members objects y m = inl (y, m, same_lesser, inl (λ n k. k, λ e. e))
+
 module _ (script : Script) (members : List ℕ) where
-  pub goes_sealed : (before after : List Object) (names now : List (Option Val)) (stack to : List Activity) (next later : ℕ) → next ≤ later
+  pub goes_sealed : {before after : List Object} {names now : List (Option Val)} (stack to : List Activity) {next later : ℕ} → next ≤ later
       → ((y : Object) → Includes after y → Loose members before next y) → ((o : ℕ) → Includes members o → ¬ Includes (name_holdings now) o)
       → ((a : Activity) → Includes to a → Fits members a) → list_any is_collection to ≡ true → (Clears members stack → Clears members to)
       → ((y : Object) → Includes after y → Includes members y.serial → Excused to y) → Sealed script members before names stack next
       → Sealed script members after now to later
-  goes_sealed before after names now stack to next later more comes unnamed fits collecting under excused h = record {
+  goes_sealed stack to {later = later} more comes unnamed fits collecting under excused h = record {
     made = λ o m. omega (arith, h.made o m, more);
     above = h.above;
     unnamed = unnamed;
@@ -230,42 +236,39 @@ module _ (script : Script) (members : List ℕ) where
       (λ new. let low = h.made y.serial k in absurd (let e = new.0 in omega (arith, low, e)))
 
   -- objects lose references, and the stack goes on
-  pub shrinks_sealed : (before after : List Object) (names : List (Option Val)) (stack to : List Activity) (next : ℕ) → ((y : Object) → Includes after y
+  pub shrinks_sealed : {before after : List Object} {names : List (Option Val)} (stack to : List Activity) {next : ℕ} → ((y : Object) → Includes after y
       → Comes members before next y) → ((a : Activity) → Includes to a → Fits members a) → list_any is_collection to ≡ true → (Clears members stack
       → Clears members to)
       → ((n : ℕ) → NotAfter stack n → NotAfter to n) → ((n : ℕ) → Includes members n → list_any (is_death_of n) stack ≡ true → list_any (is_death_of n) to ≡ true)
       → Sealed script members before names stack next → Sealed script members after names to next
-  shrinks_sealed before after names stack to next comes fits collecting under turns deaths h = goes_sealed before after names names stack to next next
+  shrinks_sealed {before = before} {after = after} {names = names} stack to {next = next} comes fits collecting under turns deaths h = goes_sealed stack to
       (omega arith) (λ y m. loosen members before next y (comes y m)) h.unnamed fits collecting under (comes_excused before after names stack to next comes
       turns deaths h) h
-
-  pub shrunk : (before after : List Object) (next : ℕ) → Shrinks before after → (y : Object) → Includes after y → Comes members before next y
-  shrunk before after next shrinks y m = let x = shrinks y m in inl (x.0, x.1, x.2, inl x.3)
 
   -- an activity other than a collection is replaced or pushed
   not_after : (a b : Activity) (below : List Activity) → is_collection b ≡ false → (n : ℕ) → NotAfter (a ∷ below) n → NotAfter (b ∷ below) n
   not_after a b below none n h c m = either m (λ e. absurd (let no : false ≡ true = sym none ∙ ap is_collection e in cc)) (λ k. h c (inr k))
 
-  pub turn_sealed : (a b : Activity) (below : List Activity) (before after : List Object) (names : List (Option Val)) (next : ℕ)
+  pub turn_sealed : (a b : Activity) (below : List Activity) {before after : List Object} {names : List (Option Val)} {next : ℕ}
       → ((y : Object) → Includes after y → Comes members before next y) → Fits members b → is_collection a ≡ false → is_collection b ≡ false
       → ((n : ℕ) → Includes members n → is_death_of n a ≡ is_death_of n b)
       → Sealed script members before names (a ∷ below) next → Sealed script members after names (b ∷ below) next
-  turn_sealed a b below before after names next comes fit none also same h = shrinks_sealed before after names (a ∷ below) (b ∷ below) next comes
+  turn_sealed a b below {before = before} {after = after} {names = names} {next = next} comes fit none also same h = shrinks_sealed (a ∷ below) (b ∷ below) comes
       (λ x m. either m (λ e. subst (Fits members) e fit) (λ k. h.stack_fits x (inr k))) (subst (λ t. (t || list_any is_collection below) ≡ true) (none ∙ sym also) h.collecting)
       (λ k. subst (λ t. ClearsIf t ((d : Activity) → Includes below d → IsOutOf members d) (Clears members below)) (none ∙ sym also) k)
       (not_after a b below also) (λ n m e. subst (λ t. (t || list_any (is_death_of n) below) ≡ true) (same n m) e) h
 
-  pub push_sealed : (a : Activity) (stack : List Activity) (objects : List Object) (names : List (Option Val)) (next : ℕ) → Fits members a → is_collection a
+  pub push_sealed : (a : Activity) {stack : List Activity} {objects : List Object} {names : List (Option Val)} {next : ℕ} → Fits members a → is_collection a
       ≡ false → Sealed script members objects names stack next → Sealed script members objects names (a ∷ stack) next
-  push_sealed a stack objects names next fit none h = shrinks_sealed objects objects names stack (a ∷ stack) next (shrunk objects objects next (same_shrinks objects))
+  push_sealed a {stack = stack} {objects = objects} {names = names} {next = next} fit none h = shrinks_sealed stack (a ∷ stack) (all_same members objects)
       (λ x m. either m (λ e. subst (Fits members) e fit) (h.stack_fits x)) (or_right (is_collection a) (list_any is_collection stack) h.collecting)
       (λ k. subst (λ t. ClearsIf t ((d : Activity) → Includes stack d → IsOutOf members d) (Clears members stack)) (sym none) k)
       (λ n w c m. either m (λ e. absurd (let no : false ≡ true = sym none ∙ ap is_collection e in cc)) (λ k. w c k)) (λ n m e. or_right (is_death_of n a) (list_any (is_death_of n) stack) e) h
 
-  pub pop_sealed : (a : Activity) (below : List Activity) (before after : List Object) (names : List (Option Val)) (next : ℕ) → ((y : Object) → Includes after y
+  pub pop_sealed : (a : Activity) {below : List Activity} {before after : List Object} {names : List (Option Val)} {next : ℕ} → ((y : Object) → Includes after y
       → Comes members before next y) → is_collection a ≡ false → ((n : ℕ) → Includes members n → Includes (serials after) n → is_death_of n a ≡ false)
       → Sealed script members before names (a ∷ below) next → Sealed script members after names below next
-  pop_sealed a below before after names next comes none apart h = goes_sealed before after names names (a ∷ below) below next next (omega arith)
+  pop_sealed a {below = below} {before = before} {after = after} {names = names} {next = next} comes none apart h = goes_sealed (a ∷ below) below (omega arith)
       (λ y m. loosen members before next y (comes y m)) h.unnamed (λ x m. h.stack_fits x (inr m)) (subst (λ t. (t || list_any is_collection below) ≡ true) none
       h.collecting)
       (λ k. subst (λ t. ClearsIf t ((d : Activity) → Includes below d → IsOutOf members d) (Clears members below)) none k) excused h
@@ -280,49 +283,43 @@ module _ (script : Script) (members : List ℕ) where
           (λ new. let low = h.made y.serial k in absurd (let e = new.0 in omega (arith, low, e)))
 
   -- one object moves, and is excused for another reason
-  pub place_sealed : (f : Object → Object) (o : ℕ) (objects : List Object) (names : List (Option Val)) (stack : List Activity) (next : ℕ)
+  pub place_sealed : (f : Object → Object) (o : ℕ) {objects : List Object} {names : List (Option Val)} {stack : List Activity} {next : ℕ}
       → ((x : Object) → IsLesser x (f x)) → ((x : Object) → (f x).entries ≡ x.entries)
       → ((x : Object) → Includes objects x → x.serial ≡ o → Includes members x.serial → Excused stack (f x)) → Sealed script members objects names stack next
       → Sealed script members (change f o objects) names stack next
-  place_sealed f o objects names stack next lesser same other h = goes_sealed objects (change f o objects) names names stack stack next next (omega arith) comes
+  place_sealed f o {objects = objects} {names = names} {stack = stack} {next = next} lesser same other h = goes_sealed stack stack (omega arith) comes
       h.unnamed h.stack_fits h.collecting (λ k. k) excused h
     where
       lessens : (b : Bool) (x : Object) → IsLesser x (if b then f x else x) × Lessens x (if b then f x else x)
       lessens true x = (lesser x, λ n k. subst (λ es. Includes (references es) n) (same x) k)
-      lessens false x = (record { later = record { serial = refl; code = refl; class = refl; referent = inl refl }; finalized = λ e. e; place = λ e. e }, λ n k. k)
+      lessens false x = (same_lesser, λ n k. k)
 
       comes : (y : Object) → Includes (change f o objects) y → Loose members objects next y
       comes y m = let x = Includes-map_cases (λ x. if x.serial == o then f x else x) objects y m in subst (Loose members objects next) x.2
           (let l = lessens (x.0.serial == o) x.0 in inl (x.0, x.1, l.0, inl l.1))
 
-      one : (b : Bool) (x : Object) → (x.serial == o) ≡ b → Includes objects x → (let y : Object = if b then f x else x in Includes members y.serial → Excused stack y)
-      one true x t m k = other x m (eqb-true x.serial o t) (subst (Includes members) (lesser x).later.serial k)
-      one false x t m k = h.excused x m k
-
       excused : (y : Object) → Includes (change f o objects) y → Includes members y.serial → Excused stack y
-      excused y m k = let x = Includes-map_cases (λ x. if x.serial == o then f x else x) objects y m in subst (Excused stack) x.2
-          (one (x.0.serial == o) x.0 refl x.1 (subst (λ (z : Object). Includes members z.serial) (sym x.2) k))
+      excused = each_changed (λ z. Includes members z.serial → Excused stack z) f (λ x. x.serial == o) objects
+          (λ x m t k. other x m (eqb-true x.serial o t) (subst (Includes members) (lesser x).later.serial k)) (λ x m t k. h.excused x m k)
 
   -- the changed objects are no members
-  pub others_come : (f : Object → Object) (o : ℕ) (before : List Object) (names : List (Option Val)) (stack : List Activity) (next : ℕ)
+  pub others_come : (f : Object → Object) (o : ℕ) {before : List Object} {names : List (Option Val)} {stack : List Activity} {next : ℕ}
       → ((x : Object) → IsLesser x (f x)) → ((x : Object) → (f x).entries ≡ x.entries) → (¬ Includes members o) → Sealed script members before names stack next
       → (y : Object) → Includes (change f o before) y → Comes members before next y
-  others_come f o before names stack next lesser same out h y m = let x = Includes-map_cases (λ x. if x.serial == o then f x else x) before y m
-      in subst (Comes members before next) x.2 (one (x.0.serial == o) x.0 refl x.1)
-    where
-      one : (b : Bool) (x : Object) → (x.serial == o) ≡ b → Includes before x → Comes members before next (if b then f x else x)
-      one true x t k = let away : ¬ Includes members x.serial = subst (λ n. ¬ Includes members n) (sym (eqb-true x.serial o t)) out in
-          inl (x, k, lesser x, inr (away, λ p i r. away (h.entries x k p i (subst (λ es. Includes (references es) p) (same x) r))))
-      one false x t k = inl (x, k, record { later = record { serial = refl; code = refl; class = refl; referent = inl refl }; finalized = λ e. e; place = λ e. e }, inl (λ n i. i, λ e. e))
+  others_come f o {before = before} {next = next} lesser same out h = each_changed (Comes members before next) f (λ x. x.serial == o) before
+      (λ x k t.
+      let away : ¬ Includes members x.serial = subst (λ n. ¬ Includes members n) (sym (eqb-true x.serial o t)) out in
+      inl (x, k, lesser x, inr (away, λ p i r. away (h.entries x k p i (subst (λ es. Includes (references es) p) (same x) r)))))
+      (λ x k t. inl (x, k, same_lesser, inl (λ n i. i, λ e. e)))
 
   pub placed_lesser : (p : Place) → p ≢ Legacy → (x : Object) → IsLesser x (with_place p x)
-  placed_lesser p apart x = record { later = record { serial = refl; code = refl; class = refl; referent = inl refl }; finalized = λ e. e; place = λ e. absurd (apart e) }
+  placed_lesser p apart x = record { later = still_later; finalized = λ e. e; place = λ e. absurd (apart e) }
 
   pub starts_sealed : (spec : FrameSpec) (u : World) → (¬ Includes members spec.subject) → ((g : ℕ) → spec.func ≡ Some g → ¬ Includes members g)
       → Sealed script members u.objects u.names u.stack u.next_serial → (let s : Transition = start_frame script spec u in Passes script members s.0 s.1)
   starts_sealed spec u subject function h = starts_either (Passes script members) script spec u (record { sealed = h; lines = one_still members BudgetSpent refl (λ n m. absurd m) })
       (λ some. record {
-        sealed = push_sealed (begun_frame script spec) u.stack u.objects u.names u.next_serial (subject, function) refl h;
+        sealed = push_sealed (begun_frame script spec) (subject, function) refl h;
         lines = one_still members (Enter spec.sort spec.subject) refl (λ n m k. absurd (either m (λ e. subject (subst (Includes members) (sym e) k))
             (λ no. no)));
       })

@@ -6,10 +6,9 @@ use Rattle.cg_value.specs.declared.Val.{Val}
 use Rattle.cg_value.specs.declared.Val.TheVariants.{None as Nothing, Int, Str, Ref}
 use Rattle.cg_value.specs.declared.Entry.{Entry}
 use Rattle.cg_value.specs.declared.Place.{Place}
-use Rattle.cg_value.specs.declared.Place.TheVariants.{Untracked, Gen, Frozen, Cand, Seen, Back, Legacy, Pend}
+use Rattle.cg_value.specs.declared.Place.TheVariants.{Gen, Frozen, Cand, Legacy}
 use Rattle.cg_value.specs.declared.KindCode.{KindCode}
 use Rattle.cg_script.specs.declared.Script.{Script}
-use Rattle.cg_script.specs.declared.Operand.{Operand}
 use Rattle.cg_script.specs.declared.Operand.TheVariants.{None as NoneWord, Int as IntWord, Str as StrWord, Name, SelfLocal, WeakLocal, Cell, Garbage}
 use Rattle.cg_script.specs.declared.Command.{Command}
 use Rattle.cg_graph.specs.Member.{Includes}
@@ -20,56 +19,40 @@ use Rattle.cg_graph.proofs.Members.{either, Includes-append_cases, Includes-map_
 use Rattle.cg_machine.specs.declared.event.Event.{Event}
 use Rattle.cg_machine.specs.declared.event.Event.TheVariants.{Made, Value, RefCount, Tracked as TrackedLine, Finalized as FinalizedLine, Count as CountLine, Gens as GensLine}
 use Rattle.cg_machine.specs.declared.event.FrameSort.{FrameSort}
-use Rattle.cg_machine.specs.declared.event.FrameSort.TheVariants.{Del as DelFrame, Legacy as LegacyFrame, Callback, Call as CallFrame}
+use Rattle.cg_machine.specs.declared.event.FrameSort.TheVariants.{Callback, Call as CallFrame}
 use Rattle.cg_machine.specs.World.{World, Activity, Framed, Frame, Numbers, with_change}
-use Rattle.cg_machine.specs.Operands.{frame_on, is_dict, self_in, value_of, weak_in}
-use Rattle.cg_machine.specs.Effects.{Calls, Changes, Collects, Effect, Quits, bound, frozen, may_track, replaced, tracked_by, unfrozen, with_new, Explains}
+use Rattle.cg_machine.specs.Operands.{frame_on, is_dict, self_in, weak_in}
+use Rattle.cg_machine.specs.Effects.{Calls, Changes, Effect, bound, frozen, may_track, replaced, tracked_by, unfrozen, with_new}
 use Rattle.cg_machine.specs.Weak.{has_weak_references, is_function, is_instance}
 use Rattle.cg_laws.specs.Laws.{is_stop, named}
 use Rattle.cg_laws.proofs.CommandRefs.{HoldNone, IsNotTo, all_free, bound_free, entry_free, entry_key, entry_val, got_free, name_free, option_free, option_held, put_free}
-use Rattle.cg_laws.proofs.Unreferred.{later_refl}
-use Rattle.cg_represents.proofs.Lists.{found_at}
+use Rattle.cg_laws.proofs.Unreferred.{later_refl, still_later}
+use Rattle.cg_represents.proofs.Lists.{found_at, each_changed}
 use Rattle.cg_laws.proofs.Lookups.{references_of_member}
-use Rattle.cg_represents.proofs.Shapes.{IsAtHand, NoneThere, Word, ValueIn, KeyIn, ReferentOf, HasObject, IsEdit, Shape, Binds, Makes, Edits, Puts, Shows, Tells, Stays, Sets, Freezes, Unfreezes, StartsFrame, StartsCollection, Ends, Inspects, AsksWhy, TellsNumbers}
-use Rattle.cg_promises.proofs.FinalSet.{Comes, IsClean, IsLesser, Sealed, TellsStill, none_out, one_still}
+use Rattle.cg_represents.proofs.Shapes.{IsAtHand, NoneThere, Word, ValueIn, KeyIn, ReferentOf, HasObject, IsEdit, Shape, Binds, Makes, Edits, Puts, Shows, Tells, Stays, Sets, Freezes, Unfreezes, StartsFrame, Inspects}
+use Rattle.cg_promises.proofs.FinalSet.{Comes, IsClean, IsLesser, Sealed, TellsStill, none_out, one_still, same_lesser}
 
 -- the places of a collection stay
 frozen_legacy : (p : Place) → frozen p ≡ Legacy → p ≡ Legacy
 frozen_legacy (Gen i) e = absurd (let no : Frozen ≡ Legacy = e in cc)
-frozen_legacy Untracked e = e
-frozen_legacy Frozen e = e
-frozen_legacy Cand e = e
-frozen_legacy Seen e = e
-frozen_legacy Back e = e
-frozen_legacy Legacy e = e
-frozen_legacy Pend e = e
+frozen_legacy p e = e
 
 unfrozen_legacy : (p : Place) → unfrozen p ≡ Legacy → p ≡ Legacy
 unfrozen_legacy Frozen e = absurd (let no : Gen 2 ≡ Legacy = e in cc)
-unfrozen_legacy (Gen i) e = e
-unfrozen_legacy Untracked e = e
-unfrozen_legacy Cand e = e
-unfrozen_legacy Seen e = e
-unfrozen_legacy Back e = e
-unfrozen_legacy Legacy e = e
-unfrozen_legacy Pend e = e
+unfrozen_legacy p e = e
 
 frame_member : (stack : List Activity) (f : Frame) → frame_on stack ≡ Some f → Includes stack (Framed f)
-frame_member [] f e = absurd (let no : None ≡ Some f = e in cc)
 frame_member (Framed g ∷ below) f e = let same : g ≡ f = cc in inl (ap (λ (h : Frame). Framed h) same)
-frame_member (a ∷ below) f e = absurd (let no : None ≡ Some f = e in cc)
+frame_member xs f e = absurd (let no : None ≡ Some f = e in cc)
 
 self_subject : (sort : FrameSort) (o s : ℕ) → self_in sort o ≡ Some s → o ≡ s
-self_subject DelFrame o s e = cc
-self_subject LegacyFrame o s e = cc
 self_subject Callback o s e = absurd (let no : None ≡ Some s = e in cc)
 self_subject CallFrame o s e = absurd (let no : None ≡ Some s = e in cc)
+self_subject sort o s e = cc
 
 weak_subject : (sort : FrameSort) (o s : ℕ) → weak_in sort o ≡ Some s → o ≡ s
 weak_subject Callback o s e = cc
-weak_subject DelFrame o s e = absurd (let no : None ≡ Some s = e in cc)
-weak_subject LegacyFrame o s e = absurd (let no : None ≡ Some s = e in cc)
-weak_subject CallFrame o s e = absurd (let no : None ≡ Some s = e in cc)
+weak_subject sort o s e = absurd (let no : None ≡ Some s = e in cc)
 
 module _ (script : Script) (members : List ℕ) (w : World) (h : Sealed script members w.objects w.names w.stack w.next_serial) where
   -- a value that refers to no member
@@ -123,20 +106,17 @@ module _ (script : Script) (members : List ℕ) (w : World) (h : Sealed script m
   cell_out None at i v e = none_out_of v e
   cell_out (Some f) at i v e = function_out f.function i v (h.stack_fits (Framed f) (frame_member w.stack f at)).1 e
 
-  operand_out : (operand : Operand) (v : Val) → value_of w operand ≡ Some v → IsOut v
-  operand_out NoneWord v e = plain_out Nothing v refl e
-  operand_out (IntWord n) v e = plain_out (Int n) v refl e
-  operand_out (StrWord s) v e = plain_out (Str s) v refl e
-  operand_out (Name x) v e = λ o m k. name_free w.names x o (h.unnamed o m) (subst (λ n. Includes (references_of_value n) o) (sym e) (option_held (reference_in v) o k))
-  operand_out SelfLocal v e = local_out (option_and_then (λ f. self_in f.sort f.subject) (frame_on w.stack)) v (subject_out self_in self_subject (frame_on w.stack) refl) e
-  operand_out WeakLocal v e = local_out (option_and_then (λ f. weak_in f.sort f.subject) (frame_on w.stack)) v (subject_out weak_in weak_subject (frame_on w.stack) refl) e
-  operand_out (Cell i) v e = cell_out (frame_on w.stack) refl i v e
-  operand_out Garbage v e = same_out (Ref 1) v e (λ o m k. let same : 1 ≡ o = cc in let low = h.above o m in omega (arith, low, same))
-
   -- a value at hand refers to no member, and an object at hand is none
   hand_out : (command : Command) (v : Val) → IsAtHand w command v → IsOut v
   hand_out command v NoneThere = plain_out Nothing Nothing refl refl
-  hand_out command v (Word operand u own e) = operand_out operand u e
+  hand_out command v (Word NoneWord u own e) = plain_out Nothing u refl e
+  hand_out command v (Word (IntWord n) u own e) = plain_out (Int n) u refl e
+  hand_out command v (Word (StrWord s) u own e) = plain_out (Str s) u refl e
+  hand_out command v (Word (Name x) u own e) = λ o m k. name_free w.names x o (h.unnamed o m) (subst (λ n. Includes (references_of_value n) o) (sym e) (option_held (reference_in u) o k))
+  hand_out command v (Word SelfLocal u own e) = local_out (option_and_then (λ f. self_in f.sort f.subject) (frame_on w.stack)) u (subject_out self_in self_subject (frame_on w.stack) refl) e
+  hand_out command v (Word WeakLocal u own e) = local_out (option_and_then (λ f. weak_in f.sort f.subject) (frame_on w.stack)) u (subject_out weak_in weak_subject (frame_on w.stack) refl) e
+  hand_out command v (Word (Cell i) u own e) = cell_out (frame_on w.stack) refl i u e
+  hand_out command v (Word Garbage u own e) = same_out (Ref 1) u e (λ o m k. let same : 1 ≡ o = cc in let low = h.above o m in omega (arith, low, same))
   hand_out command v (ValueIn x e m hand k) = λ o i. entry_val e o (λ r. clean x m (λ q. hand_out command (Ref x.serial) hand x.serial q refl) o i (references_of_member x.entries e o k r))
   hand_out command v (KeyIn x e m hand k) = λ o i. entry_key e o (λ r. clean x m (λ q. hand_out command (Ref x.serial) hand x.serial q refl) o i (references_of_member x.entries e o k r))
   hand_out command v (ReferentOf x r m hand e) = λ o i k. h.referents x m o i (e ∙ k)
@@ -166,9 +146,7 @@ module _ (script : Script) (members : List ℕ) (w : World) (h : Sealed script m
   abbrev pub DoesOpen : Effect → Type 0
   DoesOpen (Changes wants_memory lines given_up after) = Opens lines after
   DoesOpen (Calls f) = ¬ Includes members f
-  DoesOpen (Collects g) = Unit {0}
-  DoesOpen (Explains o) = Unit {0}
-  DoesOpen Quits = Unit {0}
+  DoesOpen effect = Unit {0}
 
   stays : (y : Object) → Includes w.objects y → Comes members w.objects w.next_serial y
   stays y m = inl (y, m, record { later = later_refl y; finalized = λ e. e; place = λ e. e }, inl (λ n k. k, λ e. e))
@@ -182,18 +160,14 @@ module _ (script : Script) (members : List ℕ) (w : World) (h : Sealed script m
   -- the changed object is no member
   one_comes : (f : Object → Object) (s : ℕ) → (¬ Includes members s) → ((z : Object) → IsLesser z (f z)) → ((z : Object) → IsClean members (f z)) → (y : Object)
       → Includes (change f s w.objects) y → Comes members w.objects w.next_serial y
-  one_comes f s out lesser free y m = let x = Includes-map_cases (λ x. if x.serial == s then f x else x) w.objects y m
-      in subst (Comes members w.objects w.next_serial) x.2 (go (x.0.serial == s) x.0 refl x.1)
-    where
-      go : (b : Bool) (x : Object) → (x.serial == s) ≡ b → Includes w.objects x → Comes members w.objects w.next_serial (if b then f x else x)
-      go true x t k = inl (x, k, lesser x, inr (subst (λ n. ¬ Includes members n) (sym (eqb-true x.serial s t)) out, free x))
-      go false x t k = stays x k
+  one_comes f s out lesser free = each_changed (Comes members w.objects w.next_serial) f (λ x. x.serial == s) w.objects
+      (λ x k t. inl (x, k, lesser x, inr (subst (λ n. ¬ Includes members n) (sym (eqb-true x.serial s t)) out, free x))) (λ x k t. stays x k)
 
   sets_open : (s : ℕ) (entries : List Entry) → (¬ Includes members s) → ((o : ℕ) → Includes members o → HoldNone o entries) → Opens [] (with_change (with_entries entries) s w)
   sets_open s entries out free = record {
     next = omega arith;
     names = h.unnamed;
-    comes = one_comes (with_entries entries) s out (λ z. record { later = record { serial = refl; code = refl; class = refl; referent = inl refl }; finalized = λ e. e; place = λ e. e }) (λ z. free);
+    comes = one_comes (with_entries entries) s out (λ z. same_lesser) (λ z. free);
     told = none_out members;
   }
 
@@ -202,7 +176,7 @@ module _ (script : Script) (members : List ℕ) (w : World) (h : Sealed script m
     next = omega arith;
     names = h.unnamed;
     comes = λ y m. let x = Includes-map_cases (λ x. with_place (f x.place) x) w.objects y m in subst (Comes members w.objects w.next_serial) x.2
-        (inl (x.0, x.1, record { later = record { serial = refl; code = refl; class = refl; referent = inl refl }; finalized = λ e. e; place = kept x.0.place }, inl (λ n k. k, λ e. ap f e ∙ cand)));
+        (inl (x.0, x.1, record { later = still_later; finalized = λ e. e; place = kept x.0.place }, inl (λ n k. k, λ e. ap f e ∙ cand)));
     told = none_out members;
   }
 
@@ -227,13 +201,13 @@ module _ (script : Script) (members : List ℕ) (w : World) (h : Sealed script m
           else with_entries (put x.entries key v) y in IsLesser y z × (IsClean members (with_entries (put x.entries key v) y) → IsClean members z))
       tracked true y = (
         record {
-          later = record { serial = refl; code = refl; class = refl; referent = inl refl };
+          later = still_later;
           finalized = λ e. e;
           place = λ e. absurd (let no : Gen 0 ≡ Legacy = e in cc);
         },
         λ c. c,
       )
-      tracked false y = (record { later = record { serial = refl; code = refl; class = refl; referent = inl refl }; finalized = λ e. e; place = λ e. e }, λ c. c)
+      tracked false y = (same_lesser, λ c. c)
 
   made_opens : (name : ℕ) (kind : KindCode) (class : Option ℕ) (entries : List Entry) (referent : Option ℕ)
       → ((o : ℕ) → Includes members o → HoldNone o entries) → ((o : ℕ) → Includes members o → referent ≢ Some o) → Opens (Made kind w.next_serial ∷ [])
@@ -256,14 +230,6 @@ module _ (script : Script) (members : List ℕ) (w : World) (h : Sealed script m
   prints_open : (line : Event) → is_stop line ≡ false → ((n : ℕ) → Includes (named line) n → ¬ Includes members n) → Opens (line ∷ []) w
   prints_open line still out = record { next = omega arith; names = h.unnamed; comes = stays; told = one_still members line still (λ n m k. absurd (out n m k)) }
 
-  tells_open : (line : Event) → TellsNumbers line → Opens (line ∷ []) w
-  tells_open (RefCount n) k = prints_open (RefCount n) refl (λ o m i. m)
-  tells_open (TrackedLine b) k = prints_open (TrackedLine b) refl (λ o m i. m)
-  tells_open (FinalizedLine b) k = prints_open (FinalizedLine b) refl (λ o m i. m)
-  tells_open (CountLine first second third) k = prints_open (CountLine first second third) refl (λ o m i. m)
-  tells_open (GensLine first second third fourth) k = prints_open (GensLine first second third fourth) refl (λ o m i. m)
-  tells_open line k = absurd k
-
   pub shape_opens : (command : Command) (e : Effect) → Shape w command e → DoesOpen e
   shape_opens command e (Binds name v own hand) = binds_open name v (bound_out command v hand)
   shape_opens command e (Makes name kind class entries referent own parts) = made_opens name kind class entries referent
@@ -274,13 +240,16 @@ module _ (script : Script) (members : List ℕ) (w : World) (h : Sealed script m
   shape_opens command e (Puts x key v found mutable hand_key hand room) = put_opens x key v found.member (object_out command (λ y. is_dict y || is_instance y) x
       found) (hand_out command key hand_key) (hand_out command v hand)
   shape_opens command e (Shows v hand) = prints_open (Value v) refl (λ n m k. option_free (reference_in v) n (hand_out command v hand n k) m)
-  shape_opens command e (Tells line tells) = tells_open line tells
+  shape_opens command e (Tells (RefCount n) tells) = prints_open (RefCount n) refl (λ o m i. m)
+  shape_opens command e (Tells (TrackedLine b) tells) = prints_open (TrackedLine b) refl (λ o m i. m)
+  shape_opens command e (Tells (FinalizedLine b) tells) = prints_open (FinalizedLine b) refl (λ o m i. m)
+  shape_opens command e (Tells (CountLine first second third) tells) = prints_open (CountLine first second third) refl (λ o m i. m)
+  shape_opens command e (Tells (GensLine first second third fourth) tells) = prints_open (GensLine first second third fourth) refl (λ o m i. m)
+  shape_opens command e (Tells line tells) = absurd tells
   shape_opens command e Stays = same _
   shape_opens command e (Sets numbers own keeps) = same _
   shape_opens command e (Freezes is) = places_open frozen _ frozen_legacy refl
   shape_opens command e (Unfreezes is) = places_open unfrozen _ unfrozen_legacy refl
   shape_opens command e (StartsFrame f found) = object_out command is_function f found
-  shape_opens command e (StartsCollection g low) = tt
-  shape_opens command e Ends = tt
   shape_opens command e (Inspects lines calm there) = absurd (let no : true ≡ false = sym h.collecting ∙ calm in cc)
-  shape_opens command e (AsksWhy x found calm) = tt
+  shape_opens command e shape = tt

@@ -1,17 +1,16 @@
 -- When a collection stops, each member of its final set has been freed. Otherwise the living member with the largest serial would
 -- be held by a tuple with a larger one.
-use Rattle.std.proofs.Common.{◌≡◌, ◌≢◌, refl, sym, subst, ℕ, zero, suc, ◌+◌, ◌≤◌, true, false, inl, inr, ◌⊎◌, List, [], ◌∷◌, ◌++◌, length, arith}
+use Rattle.std.proofs.Common.{◌≡◌, ◌≢◌, refl, sym, subst, ℕ, zero, suc, ◌+◌, ◌≤◌, true, inl, inr, ◌⊎◌, List, [], ◌∷◌, ◌++◌, length, arith}
 use Rattle.std.specs.Prelude.{flat_map}
 use Rattle.std.specs.List.{list_any}
-use Rattle.std.proofs.lemmas.Bool.{eqb-true}
 use Rattle.cg_value.specs.declared.Place.TheVariants.{Cand}
 use Rattle.cg_script.specs.declared.Script.{Script}
 use Rattle.cg_graph.specs.Member.{Includes}
 use Rattle.cg_graph.specs.Value.{references}
 use Rattle.cg_graph.specs.Object.{Object, serials}
-use Rattle.cg_graph.proofs.Members.{either, true_or, Includes-append_cases, Includes-append_left, Includes-append_right, Includes-map, Includes-map_cases}
+use Rattle.cg_graph.proofs.Members.{either, Includes-append_cases, Includes-append_left, Includes-append_right, Includes-map, Includes-map_cases}
 use Rattle.cg_machine.specs.declared.event.Event.TheVariants.{Free}
-use Rattle.cg_machine.specs.World.{World, Activity, TopLevel, Framed, Releasing, Dying, Death, Collecting, Collection, Ending, opening, ShuttingDown}
+use Rattle.cg_machine.specs.World.{World, Activity, Dying, Collecting, Collection, Ending, opening}
 use Rattle.cg_machine.specs.Holdings.{collect_holds, holds, is_death_of}
 use Rattle.cg_machine.specs.Run.{Run, StepTaken, events_of, last_world}
 use Rattle.cg_laws.specs.Laws.{FinalSetIsFreed, final_set}
@@ -19,6 +18,7 @@ use Rattle.cg_laws.proofs.Ending.{last_world-append}
 use Rattle.cg_laws.proofs.Unreferred.{lives_within}
 use Rattle.cg_laws.proofs.OriginsOfRuns.{opening_origin}
 use Rattle.cg_represents.proofs.Serials.{Rises}
+use Rattle.cg_represents.proofs.Representing.{death_found}
 use Rattle.cg_laws.specs.Apart.{IsApart, StandsRightly}
 use Rattle.cg_laws.proofs.RunsApart.{runs_apart}
 use Rattle.cg_promises.proofs.HoldersMove.{IsMinded}
@@ -28,18 +28,6 @@ use Rattle.cg_promises.proofs.FinalSetRuns.{IsSealedWorld, sealed_after, step_ke
 use Rattle.cg_promises.proofs.FinalSetKept.{starts_sealed_world}
 use Rattle.cg_laws.proofs.LinesNameLive.{filter_lives}
 use Rattle.cg_promises.proofs.FinalizerOnceRuns.{Fit, opening_fit, run_back, run_front, run_fit, step_fit, step_goes}
-
-pub death_on : (n : ℕ) (stack : List Activity) → list_any (is_death_of n) stack ≡ true → (d : Death) × Includes stack (Dying d) × (d.object ≡ n)
-death_on n [] e = absurd (let no : false ≡ true = e in cc)
-death_on n (a ∷ stack) e = either (true_or (is_death_of n a) (list_any (is_death_of n) stack) e) (here a refl) (λ k. let d = death_on n stack k in (d.0, inr d.1, d.2))
-  where
-    here : (b : Activity) → a ≡ b → is_death_of n b ≡ true → (d : Death) × Includes (a ∷ stack) (Dying d) × (d.object ≡ n)
-    here (Dying d) i t = (d, inl i, eqb-true d.object n t)
-    here (TopLevel commands) i t = absurd (let no : false ≡ true = t in cc)
-    here (Framed f) i t = absurd (let no : false ≡ true = t in cc)
-    here (Releasing refs) i t = absurd (let no : false ≡ true = t in cc)
-    here (Collecting c) i t = absurd (let no : false ≡ true = t in cc)
-    here (ShuttingDown started) i t = absurd (let no : false ≡ true = t in cc)
 
 -- what several activities hold, one of them holds
 held_in : (n : ℕ) (stack : List Activity) → Includes (flat_map holds stack) n → (a : Activity) × Includes stack a × Includes (holds a) n
@@ -54,7 +42,7 @@ module _ (script : Script) (members : List ℕ) (k : ℕ) (c : Collection) (belo
   under = subst (Clears members) top sealed.under
 
   not_dying : (n : ℕ) → Includes members n → ¬ (list_any (is_death_of n) v.stack ≡ true)
-  not_dying n m e = let d = death_on n below (subst (λ st. list_any (is_death_of n) st ≡ true) top e) in (under (Dying d.0) d.1).no_death d.0 refl (subst (Includes members) (sym d.2) m)
+  not_dying n m e = let d = death_found n below (subst (λ st. list_any (is_death_of n) st ≡ true) top e) in (under (Dying d.0) d.1).no_death d.0 refl (subst (Includes members) (sym d.2) m)
 
   not_held : (n : ℕ) → Includes members n → ¬ Includes (flat_map holds v.stack) n
   not_held n m i = either (Includes-append_cases (collect_holds c.phase) (flat_map holds below) n (subst (λ st. Includes (flat_map holds st) n) top i))

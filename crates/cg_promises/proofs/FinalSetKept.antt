@@ -7,7 +7,7 @@ use Rattle.cg_graph.specs.Member.{Includes}
 use Rattle.cg_graph.specs.Object.{Object, serials_at}
 use Rattle.cg_graph.proofs.Members.{either, Includes-append_left, Includes-append_right, Includes-append_cases}
 use Rattle.cg_machine.specs.declared.event.Event.{Event}
-use Rattle.cg_machine.specs.World.{World, Activity, TopLevel, Framed, Releasing, Dying, Collecting, Collection, Split, opening, with_stack, ShuttingDown}
+use Rattle.cg_machine.specs.World.{World, Activity, Collecting, Collection, Split, opening, with_stack}
 use Rattle.cg_machine.specs.Holdings.{is_collection}
 use Rattle.cg_machine.specs.Collect.{SplitStep}
 use Rattle.cg_machine.specs.Run.{Run, Step, StepOf, StepTaken, events_of, last_world}
@@ -46,23 +46,15 @@ other_step script w a below events after top none step fit apart h =
     other_primed script w after fit.sound.rises (step_goes script w events after step fit).follows (leaves.places none)
     (λ c m. either ((plain none).stack c m) (λ k. inl (subst (λ st. Includes st (Collecting c)) (sym top) (inr k))) (λ k. inr k.1)) h
 
-collect_step : (script : Script) (w : World) (c : Collection) (below : List Activity) (events : List Event) (after : World) → w.stack ≡ Collecting c ∷ below
-    → Step script w events after → Fit script w → IsApart w → Primed script w.objects w.stack → Primed script after.objects after.stack
-collect_step script w c below events after top step fit apart h =
+step_primed : (script : Script) (w : World) (stack : List Activity) (events : List Event) (after : World) → w.stack ≡ stack → Step script w events after
+    → Fit script w → IsApart w → Primed script w.objects w.stack → Primed script after.objects after.stack
+step_primed script w [] events after top step fit apart h = absurd (subst (λ st. StepOf script w st events after) top step.step)
+step_primed script w (Collecting c ∷ below) events after top step fit apart h =
     phase_primed script c below w fit.sound.rises (alone_below c below (subst (λ st. tally collections_in st ≤ 1) top fit.sound.single)) c.phase events after
     (apart.phases c (subst (λ st. Includes st (Collecting c)) (sym top) (inl refl)))
     (subst (λ st. StepOf script (with_stack st w) st events after) top step.step)
     (subst (λ st. Primed script w.objects st) top h)
-
-step_primed : (script : Script) (w : World) (stack : List Activity) (events : List Event) (after : World) → w.stack ≡ stack → Step script w events after
-    → Fit script w → IsApart w → Primed script w.objects w.stack → Primed script after.objects after.stack
-step_primed script w [] events after top step fit apart h = absurd (subst (λ st. StepOf script w st events after) top step.step)
-step_primed script w (TopLevel commands ∷ below) events after top step fit apart h = other_step script w (TopLevel commands) below events after top refl step fit apart h
-step_primed script w (Framed f ∷ below) events after top step fit apart h = other_step script w (Framed f) below events after top refl step fit apart h
-step_primed script w (ShuttingDown started ∷ below) events after top step fit apart h = other_step script w (ShuttingDown started) below events after top refl step fit apart h
-step_primed script w (Releasing refs ∷ below) events after top step fit apart h = other_step script w (Releasing refs) below events after top refl step fit apart h
-step_primed script w (Dying d ∷ below) events after top step fit apart h = other_step script w (Dying d) below events after top refl step fit apart h
-step_primed script w (Collecting c ∷ below) events after top step fit apart h = collect_step script w c below events after top step fit apart h
+step_primed script w (a ∷ below) events after top step fit apart h = other_step script w a below events after top refl step fit apart h
 
 primed_after : (script : Script) (w : World) (steps : List StepTaken) → ((more : List StepTaken) → Run script w more → IsApart (last_world w more))
     → Run script w steps → Fit script w → Primed script w.objects w.stack → (let last : World = last_world w steps in Primed script last.objects last.stack)

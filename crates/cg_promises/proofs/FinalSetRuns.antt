@@ -13,7 +13,7 @@ use Rattle.cg_graph.proofs.Members.{either, true_and, Includes-append_cases, Inc
 use Rattle.cg_machine.specs.declared.event.Event.{Event}
 use Rattle.cg_machine.specs.declared.event.Event.TheVariants.{Collected, End, GcSaved, GcStop, GcUncollectable, Refused}
 use Rattle.cg_machine.specs.declared.event.FrameSort.{FrameSort}
-use Rattle.cg_machine.specs.declared.event.FrameSort.TheVariants.{Del, Legacy as LegacyFrame, Callback, Call as CallFrame}
+use Rattle.cg_machine.specs.declared.event.FrameSort.TheVariants.{Del, Call as CallFrame}
 use Rattle.cg_machine.specs.World.{World, Activity, TopLevel, Framed, Releasing, Dying, Collecting, Collection, CollectPhase, Turns, Turn, AfterTurn, Ending, Ended, push, ShuttingDown}
 use Rattle.cg_machine.specs.Holdings.{call_holds, is_collecting, is_collection, is_death_of}
 use Rattle.cg_machine.specs.Frame.{procedure_of}
@@ -29,7 +29,7 @@ use Rattle.cg_laws.proofs.ShapeLaws.{changes_leave}
 use Rattle.cg_laws.proofs.Invariants.{AreAnswers, CommandSteps, FromFrame, FromTop, HasCommands, Steps, Takes, any_step, emptied, on, del_shaped, AreLast}
 use Rattle.cg_represents.proofs.Serials.{Rises}
 use Rattle.cg_represents.proofs.Places.{place_is}
-use Rattle.cg_promises.proofs.FinalSet.{Clears, Fits, IsLate, NotAfter, Passes, Sealed, TellsOut, comes_excused, goes_sealed, loosen, none_out, one_out, one_still, push_sealed, same_shrinks, shrunk, starts_sealed, turn_sealed, TellsStill}
+use Rattle.cg_promises.proofs.FinalSet.{all_same, Clears, Fits, IsLate, NotAfter, Passes, Sealed, TellsOut, comes_excused, goes_sealed, loosen, none_out, one_out, one_still, push_sealed, starts_sealed, turn_sealed, TellsStill}
 use Rattle.cg_promises.proofs.FinalSetDeaths.{dying_sealed, frame_end_sealed, late_sealed, released_sealed}
 use Rattle.cg_promises.proofs.FinalSetCommands.{Opens, shape_opens}
 use Rattle.cg_laws.proofs.LinesNameLive.{same_lives}
@@ -42,9 +42,8 @@ due_none : (w : World) → is_collecting w ≡ true → due w ≡ None
 due_none w e = go (is_due w.numbers) (is_collecting w) e
   where
     go : (is t : Bool) → t ≡ true → (if is && not t then Some (due_generation w.numbers) else None) ≡ None
-    go true true k = refl
-    go false t k = refl
     go true false k = let no : true ≡ false = sym k in absurd (cc)
+    go b t k = refl
 
 -- the lines at the end of a collection name no condemned object
 module _ (script : Script) (members : List ℕ) (c : Collection) (below : List Activity) (v : World) (stack : List Activity) (h : Sealed script members v.objects v.names stack v.next_serial) where
@@ -144,8 +143,7 @@ module _ (script : Script) (members : List ℕ) where
     SealedOn a = Sealed script members v.objects v.names (a ∷ below) v.next_serial
 
     turned : (a b : Activity) → Fits members b → is_collection a ≡ false → is_collection b ≡ false → ((n : ℕ) → is_death_of n a ≡ is_death_of n b) → SealedOn a → SealedOn b
-    turned a b fits none also same h = turn_sealed script members a b below v.objects v.objects v.names v.next_serial (shrunk script members v.objects v.objects
-        v.next_serial (same_shrinks v.objects)) fits none also (λ n m. same n) h
+    turned a b fits none also same h = turn_sealed script members a b below (all_same members v.objects) fits none also (λ n m. same n) h
 
     emptied_sealed : (a : Activity) → HasCommands a → SealedOn a → SealedOn (emptied a)
     emptied_sealed (TopLevel commands) ha h = turned (TopLevel commands) (TopLevel []) tt refl refl (λ n. refl) h
@@ -163,8 +161,8 @@ module _ (script : Script) (members : List ℕ) where
 
       opened : (lines : List Event) (given : List ℕ) (next : World) → next.stack ≡ a ∷ below → Opens script members now h lines next → Passes script members lines (push (Releasing given) next)
       opened lines given next same o = record {
-        sealed = push_sealed script members (Releasing given) next.stack next.objects next.names next.next_serial tt refl
-            (goes_sealed script members v.objects next.objects v.names next.names (a ∷ below) next.stack v.next_serial next.next_serial o.next
+        sealed = push_sealed script members (Releasing given) tt refl
+            (goes_sealed script members (a ∷ below) next.stack o.next
             (λ y m. loosen members v.objects v.next_serial y (o.comes y m)) o.names
             (λ b m. h.stack_fits b (subst (λ st. Includes st b) same m)) (subst (λ st. list_any is_collection st ≡ true) (sym same) h.collecting) (λ k. subst (Clears members) (sym same) k)
             (comes_excused script members v.objects next.objects v.names (a ∷ below) next.stack v.next_serial o.comes (λ n w. subst (λ st. NotAfter st n)
@@ -191,12 +189,10 @@ module _ (script : Script) (members : List ℕ) where
   -- the lines of the last step
   last_out : (w : World) (a : Activity) (lines : List Event) → AreLast w a lines → TellsStill members lines
   last_out w (TopLevel []) lines e = subst (TellsStill members) (sym e) (one_still members End refl (λ n m. absurd m))
-  last_out w (TopLevel (command ∷ commands)) lines e = absurd e
   last_out w (ShuttingDown true) lines e = subst (TellsStill members) (sym e) (
     λ event m n k. either m (λ i. absurd (subst (λ (x : Event). Includes (named x) n) (sym i) k)) (λ i. (one_still members End refl (λ o p. absurd p)).0 event i n k),
     λ event m. either m (λ i. ap is_stop (sym i)) (λ i. (one_still members End refl (λ o p. absurd p)).1 event i),
   )
-  last_out w (ShuttingDown false) lines e = absurd e
   last_out w a lines e = absurd e
 
   keeps_sealed : Steps script (λ w. (Rises 1 w.next_serial w.objects × HasBottom w.stack) × IsSealedWorld script members w) StepKeeps
@@ -236,18 +232,13 @@ module _ (script : Script) (members : List ℕ) where
   -- what the law says of a living member
   module _ (w : World) (h : IsSealedWorld script members w) (x : Object) (m : Includes w.objects x) (k : Includes members x.serial) where
     holds_not : (a : Activity) → Fits members a → HoldsNot x.serial a
-    holds_not (TopLevel commands) f = tt
     holds_not (Framed frame) f = by_sort frame.sort
       where
         by_sort : (sort : FrameSort) → ¬ Includes (call_holds sort frame.function) x.serial
-        by_sort Del = λ n. n
-        by_sort LegacyFrame = λ n. n
-        by_sort Callback = λ n. n
         by_sort CallFrame = option_free frame.function x.serial (λ e. f.1 x.serial e k)
-    holds_not (Releasing refs) f = tt
-    holds_not (ShuttingDown started) f = tt
+        by_sort sort = λ n. n
     holds_not (Dying d) f = λ i. f x.serial i k
-    holds_not (Collecting c) f = tt
+    holds_not a f = tt
 
     cells_not : (g : ℕ) → (¬ Includes members g) → ¬ Includes (references (entries_of w.objects g)) x.serial
     cells_not g out = go (object_at w.objects g) refl
@@ -265,11 +256,7 @@ module _ (script : Script) (members : List ℕ) where
 
         not_there : ¬ Includes (locals_of w.objects frame) x.serial
         not_there i = either i (λ e. f.0 (subst (Includes members) (sym e) k)) (cells frame.function f.1)
-    no_local (TopLevel commands) f = tt
-    no_local (Releasing refs) f = tt
-    no_local (ShuttingDown started) f = tt
-    no_local (Dying d) f = tt
-    no_local (Collecting c) f = tt
+    no_local a f = tt
 
     pub is_sealed : IsSealed script members w x
     is_sealed = let done = h.inside x m k in record {

@@ -14,16 +14,16 @@ use Rattle.cg_graph.proofs.Objects.{occurrences-append}
 use Rattle.cg_graph.proofs.Members.{either, or_left, Includes-of, includes-of, Includes-append_left, Includes-append_right, Includes-filter, Includes-map, Includes-map_cases, or_right}
 use Rattle.cg_machine.specs.declared.event.Event.{Event}
 use Rattle.cg_machine.specs.declared.event.FrameSort.{FrameSort}
-use Rattle.cg_machine.specs.declared.event.FrameSort.TheVariants.{Del, Legacy as LegacyFrame, Callback, Call}
-use Rattle.cg_machine.specs.World.{World, Activity, TopLevel, Framed, Releasing, Dying, Collecting, Collection, Frame, Death, Split, Turns, AfterTurn, ShuttingDown}
+use Rattle.cg_machine.specs.declared.event.FrameSort.TheVariants.{Callback, Call}
+use Rattle.cg_machine.specs.World.{World, Activity, Framed, Dying, Collecting, Collection, Frame, Death, Split, Turns, AfterTurn}
 use Rattle.cg_machine.specs.Holdings.{call_holds, holdings, holds}
 use Rattle.cg_machine.specs.Weak.{AllLose, NoneLeft, loses_referent}
 use Rattle.cg_machine.specs.Collect.{SplitStep, Survives, collection_at, get_older, has_flag, loses_at_split, older, save_all, is_final_in}
 use Rattle.cg_represents.specs.Orderly.{all_waits, waits_of}
-use Rattle.cg_laws.proofs.Condemned.{held_survives}
+use Rattle.cg_laws.proofs.Condemned.{held_survives, filter_holdings}
 use Rattle.cg_represents.proofs.Lists.{present}
 use Rattle.cg_laws.proofs.HeldLivesDeaths.{HasOrder}
-use Rattle.cg_laws.proofs.Unreferred.{IsLater, later_refl, later_trans, lives_within, none_later}
+use Rattle.cg_laws.proofs.Unreferred.{IsLater, later_refl, later_trans, lives_within, still_later, lost_later}
 use Rattle.cg_laws.proofs.Lookups.{at_member, same_object}
 use Rattle.cg_laws.proofs.HeldLives.{waits_held}
 use Rattle.cg_represents.proofs.Serials.{Rises, Rises-map}
@@ -34,20 +34,6 @@ use Rattle.cg_represents.proofs.Places.{place_is}
 use Rattle.cg_promises.proofs.FinalizerOnce.{Marks}
 use Rattle.cg_promises.proofs.FinalizersDone.{IsWanted, Primed, legacy_later, ran_later}
 use Rattle.cg_promises.proofs.FinalSet.{Fits, IsDone, NotAfter, Sealed}
-
-pub less_held : (p : Object → Bool) (objects : List Object) (o : ℕ) → occurrences o (entry_holdings (graph_of (filter p objects))) ≤ occurrences o (entry_holdings (graph_of objects))
-less_held p [] o = omega arith
-less_held p (x ∷ objects) o = go (p x) (less_held p objects o)
-  where
-    go : (b : Bool) → occurrences o (entry_holdings (graph_of (filter p objects))) ≤ occurrences o (entry_holdings (graph_of objects))
-        → occurrences o (entry_holdings (graph_of (cond b (x ∷ filter p objects) (filter p objects)))) ≤ occurrences o (entry_holdings (graph_of (x ∷ objects)))
-    go true k = omega (
-      arith,
-      k,
-      occurrences-append o (references x.entries) (entry_holdings (graph_of (filter p objects))),
-      occurrences-append o (references x.entries) (entry_holdings (graph_of objects)),
-    )
-    go false k = omega (arith, k, occurrences-append o (references x.entries) (entry_holdings (graph_of objects)))
 
 -- with one that does not pass, there are more holds
 pub more_held : (p : Object → Bool) (objects : List Object) (y : Object) (o : ℕ) → Includes objects y → p y ≡ false → Includes (references y.entries) o
@@ -60,7 +46,7 @@ more_held p (x ∷ objects) y o (inl e) t k = go (p x) (ap p e ∙ t)
 
     go : (b : Bool) → b ≡ false → occurrences o (entry_holdings (graph_of (cond b (x ∷ filter p objects) (filter p objects)))) < occurrences o (entry_holdings (graph_of (x ∷ objects)))
     go true i = absurd (let no : true ≡ false = i in cc)
-    go false i = omega (arith, here, less_held p objects o, occurrences-append o (references x.entries) (entry_holdings (graph_of objects)))
+    go false i = omega (arith, here, filter_holdings p objects o, occurrences-append o (references x.entries) (entry_holdings (graph_of objects)))
 more_held p (x ∷ objects) y o (inr m) t k = go (p x) (more_held p objects y o m t k)
   where
     go : (b : Bool) → occurrences o (entry_holdings (graph_of (filter p objects))) < occurrences o (entry_holdings (graph_of objects))
@@ -95,10 +81,10 @@ module _ (w : World) (x : Object) (m : Includes (objects_at w.objects Cand) x) w
       let c = occurrences-append x.serial (name_holdings w.names) (1 ∷ []) in omega (arith, a, b, c)
 
   named_survives : Includes (name_holdings w.names) x.serial → Survives w Cand x.serial
-  named_survives k = let more = present x.serial (name_holdings w.names) k in let less = less_held (is_at Cand) w.objects x.serial in first (omega (arith, more, less, parts)) inside
+  named_survives k = let more = present x.serial (name_holdings w.names) k in let less = filter_holdings (is_at Cand) w.objects x.serial in first (omega (arith, more, less, parts)) inside
 
   root_survives : x.serial ≡ 1 → Survives w Cand x.serial
-  root_survives e = let more = present x.serial (1 ∷ []) (inl (sym e)) in let less = less_held (is_at Cand) w.objects x.serial in first (omega (arith, more, less, parts)) inside
+  root_survives e = let more = present x.serial (1 ∷ []) (inl (sym e)) in let less = filter_holdings (is_at Cand) w.objects x.serial in first (omega (arith, more, less, parts)) inside
 
   outside_survives : (y : Object) → Includes w.objects y → is_at Cand y ≡ false → Includes (references y.entries) x.serial → Survives w Cand x.serial
   outside_survives y k t i = let less = more_held (is_at Cand) w.objects y x.serial k t i in first (omega (arith, less, parts)) inside
@@ -126,7 +112,7 @@ lose_back wanted (weak ∷ weaks) objects after lose y m =
     (x.0, x.1, record { later = later_trans x.0 z.0 y t.later z.2.later; entries = z.2.entries ∙ t.entries; finalized = z.2.finalized ∙ t.finalized; place = z.2.place ∙ t.place })
   where
     one : (b : Bool) (x : Object) → Tracks x (if b then with_referent None x else x)
-    one true x = record { later = record { serial = refl; code = refl; class = refl; referent = inr refl }; entries = refl; finalized = refl; place = refl }
+    one true x = record { later = lost_later; entries = refl; finalized = refl; place = refl }
     one false x = same_tracks x
 
 lose_none : (wanted : Object → Bool) (weaks : List ℕ) (objects after : List Object) → AllLose wanted objects weaks after → NoneLeft wanted after
@@ -173,7 +159,7 @@ module _ (script : Script) (c : Collection) (below : List Activity) (v : World) 
       where
         one : (x z : Object) (b : Bool) → includes step.alive x.serial ≡ b → (if b then with_place (Gen (older c.generation)) x else x) ≡ z → Tracks z y → Comes x y
         one x z true t e k = let s : Tracks (with_place (Gen (older c.generation)) x) y = subst (λ q. Tracks q y) (sym e) k in
-            (later_trans x (with_place (Gen (older c.generation)) x) y (record { serial = refl; code = refl; class = refl; referent = inl refl }) s.later, s.entries, s.finalized, inl (t, s.place))
+            (later_trans x (with_place (Gen (older c.generation)) x) y (still_later) s.later, s.entries, s.finalized, inl (t, s.place))
         one x z false t e k = let s : Tracks x y = subst (λ q. Tracks q y) (sym e) k in (s.later, s.entries, s.finalized, inr (t, s.place))
 
     not_alive : (o : ℕ) → includes step.alive o ≡ false → ¬ Survives now Cand o
@@ -274,8 +260,6 @@ module _ (script : Script) (c : Collection) (below : List Activity) (v : World) 
     frame_fits : (sort : FrameSort) (subject : ℕ) (function : Option ℕ) (rest : List Activity) → IsLocalHeld sort subject rest → KnowsFunction v.objects sort
         subject function rest → ((n : ℕ) → Includes (call_holds sort function ++ flat_map holds rest) n → Includes (flat_map holds now.stack) n)
         → ((n : ℕ) → Includes (all_waits rest) n → Includes (all_waits now.stack) n) → (¬ Includes members subject) × ((g : ℕ) → function ≡ Some g → ¬ Includes members g)
-    frame_fits Del subject function rest local knows held waits = (held_out subject (held subject local), λ g e. absurd (let no : None ≡ Some g = sym knows ∙ e in cc))
-    frame_fits LegacyFrame subject function rest local knows held waits = (held_out subject (held subject local), λ g e. absurd (let no : None ≡ Some g = sym knows ∙ e in cc))
     frame_fits Call subject function rest local knows held waits =
         let out = held_out subject (held subject (Includes-append_left (option_to_list function) (flat_map holds rest) subject
         (subst (λ f. Includes (option_to_list f) subject) (sym knows.0) (inl refl)))) in
@@ -297,6 +281,7 @@ module _ (script : Script) (c : Collection) (below : List Activity) (v : World) 
                 go : (b : Bool) → is_at Cand z ≡ b → b ≡ false
                 go true t = absurd ((order.condemned z m (or_left (is_at Cand z) _ t)).0 (subst (Includes (all_waits now.stack)) (sym e) waits))
                 go false t = refl
+    frame_fits sort subject function rest local knows held waits = (held_out subject (held subject local), λ g e. absurd (let no : None ≡ Some g = sym knows ∙ e in cc))
 
     frames_fit : (stack : List Activity) → AreOver stack → AreKnown v.objects stack → ((n : ℕ) → Includes (flat_map holds stack) n
         → Includes (flat_map holds now.stack) n) → ((n : ℕ) → Includes (all_waits stack) n → Includes (all_waits now.stack) n)
@@ -312,12 +297,10 @@ module _ (script : Script) (c : Collection) (below : List Activity) (v : World) 
         n i)) (λ n i. waits n (Includes-append_right (waits_of a) (all_waits rest) n i)) f m
 
     below_fits : (a : Activity) → Includes below a → Fits members a
-    below_fits (TopLevel commands) m = tt
     below_fits (Framed f) m = frames_fit now.stack over known (λ n i. i) (λ n i. i) f (inr m)
-    below_fits (Releasing refs) m = tt
-    below_fits (ShuttingDown started) m = tt
     below_fits (Dying d) m = λ n i. held_out n (held_by_member now.stack (Dying d) n (inr m) i)
     below_fits (Collecting d) m = absurd (alone d m)
+    below_fits a m = tt
 
     -- none is dying below
     no_death : (d : Death) → Includes below (Dying d) → ¬ Includes members d.object

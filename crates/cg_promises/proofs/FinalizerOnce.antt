@@ -1,6 +1,6 @@
 -- What a step does to objects and what it prints of them. Each object was there before, and its mark stays, or it has the
 -- next serial. A step prints one line that begins a frame or frees an object, or lines that name living objects.
-use Rattle.std.proofs.Common.{◌≡◌, refl, sym, ◌∙◌, subst, ℕ, ◌≤◌, Bool, true, false, inl, inr, ◌⊎◌, List, [], ◌∷◌, map}
+use Rattle.std.proofs.Common.{◌≡◌, refl, ◌∙◌, subst, ℕ, ◌≤◌, Bool, true, false, inl, inr, ◌⊎◌, List, [], ◌∷◌, map}
 use Rattle.std.specs.Prelude.{◌==◌, if◌then◌else◌}
 use Rattle.cg_value.specs.declared.Place.{Place}
 use Rattle.cg_script.specs.declared.Script.{Script}
@@ -9,7 +9,7 @@ use Rattle.cg_graph.specs.Object.{Object, change, serials, with_place, without}
 use Rattle.cg_machine.specs.declared.event.Event.{Event}
 use Rattle.cg_machine.specs.declared.event.Event.TheVariants.{Enter, Free, BudgetSpent}
 use Rattle.cg_machine.specs.declared.event.FrameSort.{FrameSort}
-use Rattle.cg_machine.specs.declared.event.FrameSort.TheVariants.{Del, Legacy, Callback, Call}
+use Rattle.cg_machine.specs.declared.event.FrameSort.TheVariants.{Del}
 use Rattle.cg_machine.specs.declared.event.FrameSpec.{FrameSpec}
 use Rattle.cg_machine.specs.World.{World, BudgetIsSpent}
 use Rattle.cg_machine.specs.Frame.{Transition, start_frame}
@@ -61,9 +61,7 @@ pub record Begins (before after : List Object) (n : ℕ) : Type 0 where
 -- a frame of a living object begins
 abbrev pub Enters : FrameSort → List Object → List Object → ℕ → Type 0
 Enters Del before after n = Begins before after n
-Enters Legacy before after n = Includes (serials before) n
-Enters Callback before after n = Includes (serials before) n
-Enters Call before after n = Includes (serials before) n
+Enters sort before after n = Includes (serials before) n
 
 -- a line that begins a frame or frees an object
 abbrev pub Says : List Object → List Object → Event → Type 0

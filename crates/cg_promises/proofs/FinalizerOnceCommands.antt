@@ -1,5 +1,5 @@
 -- What a command prints of objects: the new one, and those that its operands refer to.
-use Rattle.std.proofs.Common.{◌≡◌, refl, sym, ◌∙◌, subst, ℕ, Bool, true, false, inl, inr, ◌⊎◌, List, [], ◌∷◌, ◌++◌, Option, Some, arith}
+use Rattle.std.proofs.Common.{◌≡◌, refl, sym, subst, ℕ, Bool, true, false, inl, inr, List, [], ◌∷◌, ◌++◌, Option, Some, arith}
 use Rattle.std.specs.Prelude.{not, ◌&&◌, ◌||◌, if◌then◌else◌, option_to_list}
 use Rattle.cg_value.specs.declared.Val.{Val}
 use Rattle.cg_value.specs.declared.Val.TheVariants.{Ref}
@@ -9,40 +9,32 @@ use Rattle.cg_value.specs.declared.Place.TheVariants.{Gen}
 use Rattle.cg_value.specs.declared.KindCode.{KindCode}
 use Rattle.cg_script.specs.declared.Script.{Script}
 use Rattle.cg_script.specs.declared.Command.{Command}
-use Rattle.cg_graph.specs.Member.{Includes, includes}
+use Rattle.cg_graph.specs.Member.{Includes}
 use Rattle.cg_graph.specs.Value.{put, reference_in}
 use Rattle.cg_graph.specs.Object.{Object, first_place, is_tracked, serials, with_entries, with_place}
-use Rattle.cg_graph.proofs.Members.{either, Includes-of, includes-of, Includes-append_left, Includes-append_cases, Includes-map, Includes-map_cases}
+use Rattle.cg_graph.proofs.Members.{either, Includes-append_left, Includes-append_cases, Includes-map, Includes-map_cases}
 use Rattle.cg_machine.specs.declared.event.Event.{Event}
 use Rattle.cg_machine.specs.declared.event.Event.TheVariants.{Made, Value, RefCount, Tracked as TrackedLine, Finalized as FinalizedLine, Count as CountLine, Gens as GensLine, Referent, Referrer, Held, Via, Listed, Unreachable}
 use Rattle.cg_machine.specs.World.{World, Numbers, with_change}
 use Rattle.cg_machine.specs.Operands.{is_dict}
-use Rattle.cg_machine.specs.Effects.{Effect, Changes, Calls, Collects, Quits, bound, frozen, may_track, replaced, tracked_by, unfrozen, with_new, Explains}
+use Rattle.cg_machine.specs.Effects.{Effect, Changes, Calls, bound, frozen, may_track, replaced, tracked_by, unfrozen, with_new}
 use Rattle.cg_represents.proofs.Serials.{Rises}
 use Rattle.cg_laws.proofs.CommandRefs.{IsKnown, option_free}
 use Rattle.cg_laws.proofs.UnheldCommands.{hand_known}
-use Rattle.cg_represents.proofs.Shapes.{Shape, Binds, Makes, Edits, Puts, Shows, Tells, Stays, Sets, Freezes, Unfreezes, StartsFrame, StartsCollection, Ends, Inspects, AsksWhy, TellsNumbers}
+use Rattle.cg_represents.proofs.Shapes.{Shape, Makes, Edits, Puts, Shows, Tells, Freezes, Unfreezes, StartsFrame, StartsCollection, Ends, Inspects, AsksWhy, TellsNumbers}
 use Rattle.cg_laws.proofs.Unreferred.{Forgotten}
 use Rattle.cg_laws.proofs.Unheld.{AreOver}
 use Rattle.cg_promises.proofs.FinalizerOnce.{Marks, Old, IsTold, KeepsFinalizers, same_old, map_old, change_old, place_marks, one_told, tells, quiet}
 use Rattle.cg_represents.proofs.Lists.{absent}
 use Rattle.cg_laws.proofs.Releasing.{unheld_degree}
+use Rattle.cg_laws.proofs.HeldLivesRuns.{lives_or_not}
 use Rattle.cg_machine.specs.Holdings.{holdings}
 use Rattle.cg_represents.proofs.Inspecting.{IsThere as HeldOrThere, TellsThere}
-
-pub lives_or_not : (objects : List Object) (o : ℕ) → Includes (serials objects) o ⊎ (¬ Includes (serials objects) o)
-lives_or_not objects o = go (includes (serials objects) o) refl
-  where
-    go : (b : Bool) → includes (serials objects) o ≡ b → Includes (serials objects) o ⊎ (¬ Includes (serials objects) o)
-    go true e = inl (Includes-of (serials objects) o e)
-    go false e = inr (λ m. let no : true ≡ false = sym (includes-of (serials objects) o m) ∙ e in cc)
 
 abbrev pub DoesTell : World → Effect → Type 0
 DoesTell w (Changes wants_memory lines given_up after) = KeepsFinalizers w.objects w.next_serial lines after
 DoesTell w (Calls f) = Includes (serials w.objects) f
-DoesTell w (Collects g) = Unit {0}
-DoesTell w (Explains o) = Unit {0}
-DoesTell w Quits = Unit {0}
+DoesTell w effect = Unit {0}
 
 module _ (w : World) where
   -- the objects stay, or change
@@ -119,14 +111,11 @@ module _ (script : Script) (w : World) (rises : Rises 1 w.next_serial w.objects)
   inspected line t = absurd t
 
   pub shape_tells : (command : Command) (e : Effect) → Shape w command e → DoesTell w e
-  shape_tells command e (Binds name v own hand) = same w _ _
   shape_tells command e (Makes name kind class entries referent own parts) = made_tells w name kind class entries referent
   shape_tells command e (Edits wants x entries given h mutable edit) = sets w x.serial entries
   shape_tells command e (Puts x key v h mutable hand_key hand room) = put_tells w x key v
   shape_tells command e (Shows v hand) = prints_told w (Value v) (tt, λ n m. inl (known_lives v (hand_known script w rises over command v hand) n m))
   shape_tells command e (Tells line tells) = prints_told w line (no_serials w line tells)
-  shape_tells command e Stays = same w _ _
-  shape_tells command e (Sets numbers own keeps) = same w _ _
   shape_tells command e (Freezes is) = places w frozen _
   shape_tells command e (Unfreezes is) = places w unfrozen _
   shape_tells command e (StartsFrame f h) = Includes-map (λ (z : Object). z.serial) w.objects f h.member
@@ -134,3 +123,4 @@ module _ (script : Script) (w : World) (rises : Rises 1 w.next_serial w.objects)
   shape_tells command e Ends = tt
   shape_tells command e (Inspects lines calm there) = tells w.objects w.next_serial lines w (λ line m. inspected line (there line m)) (same_old w.objects) (omega arith)
   shape_tells command e (AsksWhy x h calm) = tt
+  shape_tells command e shape = same w _ _

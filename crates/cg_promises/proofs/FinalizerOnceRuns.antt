@@ -1,5 +1,5 @@
 -- Every step of a run prints in this way, and the invariants of runs are carried along.
-use Rattle.std.proofs.Common.{refl, ℕ, true, false, inl, List, [], ◌∷◌, ◌++◌, Some, arith, None, Option, subst, sym}
+use Rattle.std.proofs.Common.{refl, ℕ, true, false, inl, List, [], ◌∷◌, ◌++◌, Some, arith, None, subst}
 use Rattle.std.specs.Prelude.{flat_map}
 use Rattle.cg_script.specs.declared.Script.{Script}
 use Rattle.cg_script.specs.declared.Command.{Command}
@@ -74,10 +74,8 @@ opening_fit script budget = record { sound = opening_sound script budget; calm =
 -- the last lines name nothing
 last_told : (objects : List Object) (next : ℕ) (w : World) (a : Activity) (lines : List Event) → AreLast w a lines → (event : Event) → Includes lines event → IsTold objects next event
 last_told objects next w (TopLevel []) lines e event m = one_told objects next End (tt, λ n i. absurd i) event (subst (λ (ls : List Event). Includes ls event) e m)
-last_told objects next w (TopLevel (command ∷ commands)) lines e event m = absurd e
 last_told objects next w (ShuttingDown true) lines e event m =
     either (subst (λ (ls : List Event). Includes ls event) e m) (λ i. subst (IsTold objects next) i (tt, λ n k. absurd k)) (λ k. one_told objects next End (tt, λ n i. absurd i) event k)
-last_told objects next w (ShuttingDown false) lines e event m = absurd e
 last_told objects next w a lines e event m = absurd e
 
 -- what the top activity holds lives

@@ -5,32 +5,32 @@ use Rattle.std.specs.Prelude.{◌==◌, ◌||◌, if◌then◌else◌, is_some, 
 use Rattle.std.proofs.lemmas.Bool.{eqb-true}
 use Rattle.cg_value.specs.declared.Entry.{Entry}
 use Rattle.cg_value.specs.declared.Place.{Place}
-use Rattle.cg_value.specs.declared.Place.TheVariants.{Untracked, Gen, Frozen, Cand, Seen, Back, Legacy, Pend}
+use Rattle.cg_value.specs.declared.Place.TheVariants.{Untracked, Gen, Cand, Seen, Legacy, Pend}
 use Rattle.cg_script.specs.declared.Script.{Script}
 use Rattle.cg_graph.specs.Member.{Includes, includes}
 use Rattle.cg_graph.specs.Reach.{first}
 use Rattle.cg_graph.specs.Value.{entry_references, last_entry, without_last}
-use Rattle.cg_graph.specs.Object.{Object, change, object_at, objects_at, entries_of, is_at, is_in_map, is_tracked, is_tuple, marked, same_place, serials_at, with_entries, with_place, with_referent}
+use Rattle.cg_graph.specs.Object.{Object, change, object_at, objects_at, entries_of, is_at, is_tracked, marked, same_place, serials_at, with_entries, with_place, with_referent}
 use Rattle.cg_graph.proofs.Members.{either, Includes-filter, Includes-map, Includes-map_cases}
 use Rattle.cg_machine.specs.declared.event.Event.{Event}
-use Rattle.cg_machine.specs.declared.event.Event.TheVariants.{GcSaved}
 use Rattle.cg_machine.specs.declared.event.FrameSort.TheVariants.{Del, Callback}
 use Rattle.cg_machine.specs.declared.event.FrameSpec.{FrameSpec}
-use Rattle.cg_machine.specs.Program.{finalizer_of, legacy_of, profile_of}
+use Rattle.cg_machine.specs.Program.{finalizer_of, legacy_of}
 use Rattle.cg_machine.specs.World.{World, Activity, Releasing, Collecting, Collection, CollectPhase, Start, WeakClearing, WeakCalling, AfterCallback, AfterRelease, Finalizing, AfterFinalizing, Split, Turns, Turn, AfterTurn, Ending, with_change, with_objects}
 use Rattle.cg_machine.specs.Frame.{Transition, procedure_of, start_frame}
 use Rattle.cg_machine.specs.Weak.{AllLose, callback_of, loses_referent}
 use Rattle.cg_machine.specs.Dying.{finalizer_to_run}
 use Rattle.cg_machine.specs.Operands.{is_dict}
-use Rattle.cg_machine.specs.Collect.{IsGarbage, IsSetAside, IsMemberOf, Survives, all_saved, calls_back, after_release, collection_at, empties, get_older, has_flag, has_legacy, has_none_tracked, looks_at, loses_at_split, merged, merged_place, older, save_all, saved, sorted, survivor_place, takes_turn, untrack, untracked_if, waits, EndStep, FinalizingStep, PhaseStep, SplitStep, Sorts, StartStep, TurnsStep, WeakClearingStep}
+use Rattle.cg_machine.specs.Collect.{IsGarbage, IsSetAside, IsMemberOf, Survives, all_saved, calls_back, after_release, collection_at, empties, get_older, has_legacy, has_none_tracked, looks_at, loses_at_split, merged, merged_place, older, saved, sorted, survivor_place, takes_turn, untrack, untracked_if, waits, PhaseStep, Sorts}
 use Rattle.cg_laws.specs.Laws.{HadItsPlace, IsOfCollection}
-use Rattle.cg_laws.proofs.Starting.{begun_frame, starts_either}
+use Rattle.cg_laws.proofs.Starting.{begun_frame, starts_either, turn_either, called_back_either, option_either}
 use Rattle.cg_represents.proofs.Serials.{Rises, Rises-map}
 use Rattle.cg_laws.proofs.Unreferred.{lives_within}
 use Rattle.cg_laws.proofs.Lookups.{at_member, same_object}
 use Rattle.cg_laws.specs.Apart.{StandsRightly}
 use Rattle.cg_laws.proofs.SetsApart.{NoneCollects, stands_at}
 use Rattle.cg_represents.proofs.Places.{place_is}
+use Rattle.cg_represents.proofs.Lists.{each_changed}
 use Rattle.cg_laws.proofs.Pointwise.{IsOrder, Came, came, came_all_lose, came_all_saved, came_if}
 use Rattle.cg_promises.proofs.FinalizerOnce.{Follows, Marks, marks_order}
 
@@ -120,13 +120,7 @@ merged_wanted g (Gen i) w = go (nat_le i g) w
     go : (b : Bool) → IsWanted (if b then Gen g else Gen i) → ⊥
     go true k = k
     go false k = k
-merged_wanted g Untracked w = w
-merged_wanted g Frozen w = w
-merged_wanted g Cand w = w
-merged_wanted g Seen w = w
-merged_wanted g Back w = w
-merged_wanted g Legacy w = w
-merged_wanted g Pend w = w
+merged_wanted g p w = w
 
 survivor_out : (g : ℕ) (objects : List Object) (x : Object) → ¬ IsWanted (survivor_place g objects x)
 survivor_out g objects x = go (not (is_tracked x) || (g == 2) && is_dict x && has_none_tracked objects x)
@@ -198,44 +192,6 @@ module _ (script : Script) (c : Collection) (below : List Activity) (v : World) 
   gen_out : ¬ IsWanted (Gen (older c.generation))
   gen_out w = w
 
-  start_primed : (events : List Event) (after : World) → StartStep script (at Start) c below events after → PrimedIn Start → IsPrimed after
-  start_primed events after step h = to after _ step.world (stands c (WeakClearing []) (sorted c.generation step.places now) legacy tt)
-    where
-      now : List Object
-      now = (merged c.generation v).objects
-
-      rises_now : Rises 1 v.next_serial now
-      rises_now = Rises-map (λ x. with_place (merged_place c.generation x.place) x) (λ x. refl) 1 v.next_serial v.objects rises
-
-      now_legacy : HaveNoLegacy script now
-      now_legacy y m w = let x = Includes-map_cases (λ x. with_place (merged_place c.generation x.place) x) v.objects y m in
-          subst (λ z. legacy_of script z ≡ None) x.2 (legacy_later script x.0 (with_place (merged_place c.generation x.0.place) x.0) (placed_marks (merged_place c.generation x.0.place) x.0)
-          (h.no_legacy x.0 x.1 (merged_wanted c.generation x.0.place (subst (λ (z : Object). IsWanted z.place) (sym x.2) w))))
-
-      one : (b : Bool) (x : Object) → is_at (Gen c.generation) x ≡ b → Includes now x → (let z : Object = if b then with_place (step.places x) x else x in IsWanted z.place → legacy_of script z ≡ None)
-      one true x t m w = legacy_later script x (with_place (step.places x) x) (placed_marks (step.places x) x) (condemned_legacy script c.generation
-          (merged c.generation (at Start)) rises_now step.chosen step.places step.sorts x m t w)
-      one false x t m w = now_legacy x m w
-
-      legacy : HaveNoLegacy script (sorted c.generation step.places now)
-      legacy y m w = let x = Includes-map_cases (λ x. if is_at (Gen c.generation) x then with_place (step.places x) x else x) now y m in
-          subst (λ z. legacy_of script z ≡ None) x.2 (one (is_at (Gen c.generation) x.0) x.0 refl x.1 (subst (λ (z : Object). IsWanted z.place) (sym x.2) w))
-
-  weak_clearing_primed : (waiting : List ℕ) (events : List Event) (after : World) → WeakClearingStep (profile_of script.items) c waiting below
-      (at (WeakClearing waiting)) events after → PrimedIn (WeakClearing waiting) → IsPrimed after
-  weak_clearing_primed waiting events after (inl step) h = to after _ step.yields.1 (go (waits v.objects step.weak))
-    where
-      lost : List Object
-      lost = loses_referent step.weak v.objects
-
-      go : (t : Bool) → IsPrimed (if t then collection_at c (WeakClearing (waiting ++ step.weak ∷ [])) below
-          (with_objects (change (with_place Pend) step.weak lost) (at (WeakClearing waiting))) else collection_at c (WeakClearing waiting) below
-          (with_objects lost (at (WeakClearing waiting))))
-      go true = goes (WeakClearing waiting) c (WeakClearing (waiting ++ step.weak ∷ [])) _ (linger_trans v.objects lost _ (lost_linger step.weak v.objects)
-          (place_linger Pend (λ w. w) step.weak lost)) tt h
-      go false = goes (WeakClearing waiting) c (WeakClearing waiting) lost (lost_linger step.weak v.objects) tt h
-  weak_clearing_primed waiting events after (inr step) h = to after _ step.1.1 (goes (WeakClearing waiting) c (WeakCalling waiting) v.objects same tt h)
-
   weak_calling_primed : (waiting : List ℕ) → ((x : Object) → Includes v.objects x → x.place ≢ Seen) → PrimedIn (WeakCalling waiting)
       → IsPrimed (calls_back script c waiting below (at (WeakCalling waiting))).1
   weak_calling_primed [] unseen h = goes (WeakCalling []) c Finalizing v.objects same (λ x m e. absurd (unseen x m e)) h
@@ -245,19 +201,9 @@ module _ (script : Script) (c : Collection) (below : List Activity) (v : World) 
       (at (AfterCallback weak waiting)) (goes (WeakCalling (weak ∷ waiting)) c (AfterCallback weak waiting) v.objects same tt h)
 
   after_release_primed : (weak : ℕ) (waiting : List ℕ) → PrimedIn (AfterRelease weak waiting) → IsPrimed (after_release c weak waiting below (at (AfterRelease weak waiting))).1
-  after_release_primed weak waiting h = go (is_in_map v.objects weak)
-    where
-      go : (t : Bool) → (let s : Transition = if t then (
-        [],
-        collection_at c (WeakCalling waiting) below (with_change (with_place (Gen (older c.generation)))
-            weak (at (AfterRelease weak waiting))),
-      ) else (
-        [],
-        collection_at (record c { collected = c.collected + 1 }) (WeakCalling waiting) below (at
-            (AfterRelease weak waiting)),
-      ) in IsPrimed s.1)
-      go true = goes (AfterRelease weak waiting) c (WeakCalling waiting) _ (place_linger (Gen (older c.generation)) gen_out weak v.objects) tt h
-      go false = goes (AfterRelease weak waiting) (record c { collected = c.collected + 1 }) (WeakCalling waiting) v.objects same tt h
+  after_release_primed weak waiting h = called_back_either (λ lines. IsPrimed) c weak waiting below (at (AfterRelease weak waiting))
+      (λ t. goes (AfterRelease weak waiting) c (WeakCalling waiting) _ (place_linger (Gen (older c.generation)) gen_out weak v.objects) tt h)
+      (λ t. goes (AfterRelease weak waiting) (record c { collected = c.collected + 1 }) (WeakCalling waiting) v.objects same tt h)
 
   -- a visited object was condemned
   looked_at : (f : Object → Object) (o : ℕ) → ((x : Object) → Marks x (f x)) → IsMemberOf (at Finalizing) Cand o → Linger v.objects (change f o v.objects)
@@ -268,12 +214,7 @@ module _ (script : Script) (c : Collection) (below : List Activity) (v : World) 
 
   seen_ran : (f : Object → Object) (o : ℕ) → ((x : Object) → Marks x (f x)) → ((x : Object) → Includes v.objects x → x.serial ≡ o → Ran script (f x))
       → RanAt script Finalizing v.objects → RanAt script Finalizing (change f o v.objects)
-  seen_ran f o marks ran h y m e = let x = Includes-map_cases (λ x. if x.serial == o then f x else x) v.objects y m in subst (Ran script) x.2
-      (one (x.0.serial == o) x.0 refl x.1 (ap (λ (z : Object). z.place) x.2 ∙ e))
-    where
-      one : (b : Bool) (x : Object) → (x.serial == o) ≡ b → Includes v.objects x → (if b then f x else x).place ≡ Seen → Ran script (if b then f x else x)
-      one true x t k i = ran x k (eqb-true x.serial o t)
-      one false x t k i = h x k i
+  seen_ran f o marks ran h = each_changed (λ z. z.place ≡ Seen → Ran script z) f (λ x. x.serial == o) v.objects (λ x k t i. ran x k (eqb-true x.serial o t)) (λ x k t i. h x k i)
 
   -- what has no finalizer to run
   none_to_run : (o : ℕ) → option_and_then (finalizer_to_run script) (object_at v.objects o) ≡ None → (x : Object) → Includes v.objects x → x.serial ≡ o → Ran script x
@@ -300,55 +241,73 @@ module _ (script : Script) (c : Collection) (below : List Activity) (v : World) 
       seen_marks : (x : Object) → Marks x (seen x)
       seen_marks x = record { serial = refl; code = refl; class = refl; finalized = λ k. refl }
 
-  finalizing_primed : (events : List Event) (after : World) → FinalizingStep script c below (at Finalizing) events after → PrimedIn Finalizing → IsPrimed after
-  finalizing_primed events after (inl step) h = to after _ step.yields.1 (looks_at_primed step.object (option_and_then (finalizer_to_run script)
+  turn_taken : (x : Object) → PrimedIn Turns → IsPrimed (takes_turn c x below (at Turns)).1
+  turn_taken x h = turn_either (λ lines. IsPrimed) c x below (at Turns)
+      (λ t. goes Turns c Turns _ (linger_trans v.objects (saved x.serial v.objects) _ (all_saved_linger (x.serial ∷ []) v.objects)
+      (place_linger (Gen (older c.generation)) gen_out x.serial (saved x.serial v.objects))) tt h)
+      (λ t s. goes Turns c Turns _ (place_linger (Gen (older c.generation)) gen_out x.serial v.objects) tt h)
+      (λ t s. goes Turns c (Turn x.serial) v.objects same tt h)
+
+  pub phase_primed : (phase : CollectPhase) (events : List Event) (after : World) → ((x : Object) → Includes v.objects x → StandsRightly phase x)
+      → PhaseStep script c phase below (at phase) events after → PrimedIn phase → IsPrimed after
+  phase_primed Start events after rightly step h = to after _ step.world (stands c (WeakClearing []) (sorted c.generation step.places now) legacy tt)
+    where
+      now : List Object
+      now = (merged c.generation v).objects
+
+      rises_now : Rises 1 v.next_serial now
+      rises_now = Rises-map (λ x. with_place (merged_place c.generation x.place) x) (λ x. refl) 1 v.next_serial v.objects rises
+
+      now_legacy : HaveNoLegacy script now
+      now_legacy y m w = let x = Includes-map_cases (λ x. with_place (merged_place c.generation x.place) x) v.objects y m in
+          subst (λ z. legacy_of script z ≡ None) x.2 (legacy_later script x.0 (with_place (merged_place c.generation x.0.place) x.0) (placed_marks (merged_place c.generation x.0.place) x.0)
+          (h.no_legacy x.0 x.1 (merged_wanted c.generation x.0.place (subst (λ (z : Object). IsWanted z.place) (sym x.2) w))))
+
+      legacy : HaveNoLegacy script (sorted c.generation step.places now)
+      legacy = each_changed (λ z. IsWanted z.place → legacy_of script z ≡ None) (λ x. with_place (step.places x) x) (is_at (Gen c.generation)) now
+          (λ x m t w. legacy_later script x (with_place (step.places x) x) (placed_marks (step.places x) x) (condemned_legacy script c.generation
+          (merged c.generation (at Start)) rises_now step.chosen step.places step.sorts x m t w))
+          (λ x m t w. now_legacy x m w)
+  phase_primed (WeakClearing waiting) events after rightly (inl step) h = to after _ step.yields.1 (go (waits v.objects step.weak))
+    where
+      lost : List Object
+      lost = loses_referent step.weak v.objects
+
+      go : (t : Bool) → IsPrimed (if t then collection_at c (WeakClearing (waiting ++ step.weak ∷ [])) below
+          (with_objects (change (with_place Pend) step.weak lost) (at (WeakClearing waiting))) else collection_at c (WeakClearing waiting) below
+          (with_objects lost (at (WeakClearing waiting))))
+      go true = goes (WeakClearing waiting) c (WeakClearing (waiting ++ step.weak ∷ [])) _ (linger_trans v.objects lost _ (lost_linger step.weak v.objects)
+          (place_linger Pend (λ w. w) step.weak lost)) tt h
+      go false = goes (WeakClearing waiting) c (WeakClearing waiting) lost (lost_linger step.weak v.objects) tt h
+  phase_primed (WeakClearing waiting) events after rightly (inr step) h = to after _ step.1.1 (goes (WeakClearing waiting) c (WeakCalling waiting) v.objects same tt h)
+  phase_primed (WeakCalling waiting) events after rightly step h = to after _ step.1 (weak_calling_primed waiting (λ x m. (rightly x m).seen) h)
+  phase_primed (AfterCallback weak waiting) events after rightly step h = to after _ step.1 (gives (weak ∷ []) (AfterCallback weak waiting) (AfterRelease weak waiting) v.objects same tt h)
+  phase_primed (AfterRelease weak waiting) events after rightly step h = to after _ step.1 (after_release_primed weak waiting h)
+  phase_primed Finalizing events after rightly (inl step) h = to after _ step.yields.1 (looks_at_primed step.object (option_and_then (finalizer_to_run script)
       (object_at v.objects step.object)) refl step.condemned h)
-  finalizing_primed events after (inr step) h = to after _ step.1.1 (goes Finalizing c Split _ (if_linger (with_place Cand) (is_at Seen) v.objects
+  phase_primed Finalizing events after rightly (inr step) h = to after _ step.1.1 (goes Finalizing c Split _ (if_linger (with_place Cand) (is_at Seen) v.objects
       (placed_marks Cand) (λ x m t w. subst IsWanted (sym (place_is x.place Seen t)) tt)) ran h)
     where
-      one : (b : Bool) (x : Object) → is_at Seen x ≡ b → Includes v.objects x → (if b then with_place Cand x else x).place ≡ Cand → Ran script (if b then with_place Cand x else x)
-      one true x t m e = ran_later script x (with_place Cand x) (placed_marks Cand x) (h.ran (record c { phase = Finalizing }) (inl refl) x m (place_is x.place Seen t))
-      one false x t m e = absurd (subst (λ os. Includes os x.serial) step.0 (Includes-map (λ (z : Object). z.serial) (objects_at v.objects Cand) x
-          (Includes-filter (is_at Cand) v.objects x (ap (λ q. same_place q Cand) e) m)))
-
       ran : RanAt script Split (map (λ x. if is_at Seen x then with_place Cand x else x) v.objects)
-      ran y m e = let x = Includes-map_cases (λ x. if is_at Seen x then with_place Cand x else x) v.objects y m in subst (Ran script) x.2
-          (one (is_at Seen x.0) x.0 refl x.1 (ap (λ (z : Object). z.place) x.2 ∙ e))
-
-  split_primed : (events : List Event) (after : World) → SplitStep c below (at Split) events after → PrimedIn Split → IsPrimed after
-  split_primed events after step h = to after _ step.world (goes Split (record c { collected = c.collected + length (serials_at step.objects Cand) }) Turns step.objects
+      ran = each_changed (λ z. z.place ≡ Cand → Ran script z) (with_place Cand) (is_at Seen) v.objects
+          (λ x m t e. ran_later script x (with_place Cand x) (placed_marks Cand x) (h.ran (record c { phase = Finalizing }) (inl refl) x m (place_is x.place Seen t)))
+          (λ x m t e. absurd (subst (λ os. Includes os x.serial) step.0 (Includes-map (λ (z : Object). z.serial) (objects_at v.objects Cand) x
+          (Includes-filter (is_at Cand) v.objects x (ap (λ q. same_place q Cand) e) m))))
+  phase_primed (AfterFinalizing o) events after rightly step h = to after _ step.1 (gives (o ∷ []) (AfterFinalizing o) Finalizing v.objects same
+      (h.ran (record c { phase = AfterFinalizing o }) (inl refl)) h)
+  phase_primed Split events after rightly step h = to after _ step.world (goes Split (record c { collected = c.collected + length (serials_at step.objects Cand) }) Turns step.objects
       (linger_trans v.objects now step.objects (if_linger (with_place (Gen (older c.generation))) (λ x. includes step.alive x.serial) v.objects
       (placed_marks (Gen (older c.generation))) (λ x m t w. absurd w)) (all_lose_linger (loses_at_split now) step.cleared now step.objects step.lose)) tt h)
     where
       now : List Object
       now = get_older c.generation step.alive v.objects
-
-  turn_taken : (x : Object) → PrimedIn Turns → IsPrimed (takes_turn c x below (at Turns)).1
-  turn_taken x h = go (has_flag c.flags save_all) (is_tuple x)
-    where
-      go : (s t : Bool) → (let next : Transition = if s
-          then (
-            GcSaved x.serial ∷ [],
-            collection_at c Turns below (with_objects (change (with_place (Gen (older c.generation))) x.serial
-                (saved x.serial v.objects)) (at Turns)),
-          )
-          else if t then ([], collection_at c Turns below (with_change (with_place (Gen (older c.generation))) x.serial (at Turns)))
-          else ([], collection_at c (Turn x.serial) below (at Turns)) in IsPrimed next.1)
-      go true t = goes Turns c Turns _ (linger_trans v.objects (saved x.serial v.objects) _ (all_saved_linger (x.serial ∷ []) v.objects)
-          (place_linger (Gen (older c.generation)) gen_out x.serial (saved x.serial v.objects))) tt h
-      go false true = goes Turns c Turns _ (place_linger (Gen (older c.generation)) gen_out x.serial v.objects) tt h
-      go false false = goes Turns c (Turn x.serial) v.objects same tt h
-
-  turns_primed : (events : List Event) (after : World) → TurnsStep c below (at Turns) events after → PrimedIn Turns → IsPrimed after
-  turns_primed events after (inl step) h = to after _ step.yields.1 (turn_taken step.object h)
-  turns_primed events after (inr step) h = to after _ step.1.1 (goes Turns c Ending v.objects same tt h)
-
-  empties_primed : (o : ℕ) (m : Option Entry) → PrimedIn (Turn o) → IsPrimed (empties c o below (at (Turn o)) m).1
-  empties_primed o None h = gives (o ∷ []) (Turn o) (AfterTurn o) v.objects same tt h
-  empties_primed o (Some entry) h = gives (entry_references entry) (Turn o) (Turn o) _ (entries_linger (without_last (entries_of v.objects o)) o v.objects) tt h
-
-  end_primed : (events : List Event) (after : World) → EndStep script c below (at Ending) events after → PrimedIn Ending → IsPrimed after
-  end_primed events after step h = to after _ step.world (record {
+  phase_primed Turns events after rightly (inl step) h = to after _ step.yields.1 (turn_taken step.object h)
+  phase_primed Turns events after rightly (inr step) h = to after _ step.1.1 (goes Turns c Ending v.objects same tt h)
+  phase_primed (Turn o) events after rightly step h = to after _ step.1 (option_either (λ lines. IsPrimed) (empties c o below (at (Turn o))) (last_entry (entries_of v.objects o))
+      (λ e. gives (o ∷ []) (Turn o) (AfterTurn o) v.objects same tt h)
+      (λ entry e. gives (entry_references entry) (Turn o) (Turn o) _ (entries_linger (without_last (entries_of v.objects o)) o v.objects) tt h))
+  phase_primed (AfterTurn o) events after rightly step h = to after _ step.1 (goes (AfterTurn o) c Turns _ (place_linger (Gen (older c.generation)) gen_out o v.objects) tt h)
+  phase_primed Ending events after rightly step h = to after _ step.world (record {
     no_legacy = linger_legacy script v.objects _ (linger_trans v.objects kept _ (all_saved_linger step.keeps v.objects)
         (if_linger (with_place (Gen (older c.generation))) (is_at Legacy) kept (placed_marks (Gen (older c.generation))) (λ x m t w. absurd w))) h.no_legacy;
     ran = λ b m. absurd (alone b m);
@@ -356,22 +315,6 @@ module _ (script : Script) (c : Collection) (below : List Activity) (v : World) 
     where
       kept : List Object
       kept = all_saved step.keeps v.objects
-
-  pub phase_primed : (phase : CollectPhase) (events : List Event) (after : World) → ((x : Object) → Includes v.objects x → StandsRightly phase x)
-      → PhaseStep script c phase below (at phase) events after → PrimedIn phase → IsPrimed after
-  phase_primed Start events after rightly step h = start_primed events after step h
-  phase_primed (WeakClearing waiting) events after rightly step h = weak_clearing_primed waiting events after step h
-  phase_primed (WeakCalling waiting) events after rightly step h = to after _ step.1 (weak_calling_primed waiting (λ x m. (rightly x m).seen) h)
-  phase_primed (AfterCallback weak waiting) events after rightly step h = to after _ step.1 (gives (weak ∷ []) (AfterCallback weak waiting) (AfterRelease weak waiting) v.objects same tt h)
-  phase_primed (AfterRelease weak waiting) events after rightly step h = to after _ step.1 (after_release_primed weak waiting h)
-  phase_primed Finalizing events after rightly step h = finalizing_primed events after step h
-  phase_primed (AfterFinalizing o) events after rightly step h = to after _ step.1 (gives (o ∷ []) (AfterFinalizing o) Finalizing v.objects same
-      (h.ran (record c { phase = AfterFinalizing o }) (inl refl)) h)
-  phase_primed Split events after rightly step h = split_primed events after step h
-  phase_primed Turns events after rightly step h = turns_primed events after step h
-  phase_primed (Turn o) events after rightly step h = to after _ step.1 (empties_primed o (last_entry (entries_of v.objects o)) h)
-  phase_primed (AfterTurn o) events after rightly step h = to after _ step.1 (goes (AfterTurn o) c Turns _ (place_linger (Gen (older c.generation)) gen_out o v.objects) tt h)
-  phase_primed Ending events after rightly step h = end_primed events after step h
 
 -- another activity's step leaves condemned objects where they were
 module _ (script : Script) (w after : World) (rises : Rises 1 w.next_serial w.objects) (follows : Follows w.objects w.next_serial after.objects)
@@ -388,12 +331,7 @@ module _ (script : Script) (w after : World) (rises : Rises 1 w.next_serial w.ob
   wanted_apart : (p : Place) → IsWanted p → IsOfCollection p
   wanted_apart Cand w = tt
   wanted_apart Seen w = tt
-  wanted_apart Untracked w = absurd w
-  wanted_apart (Gen i) w = absurd w
-  wanted_apart Frozen w = absurd w
-  wanted_apart Back w = absurd w
-  wanted_apart Legacy w = absurd w
-  wanted_apart Pend w = absurd w
+  wanted_apart p w = absurd w
 
   ran_still : (p : Place) → IsOfCollection p → ((x : Object) → Includes w.objects x → x.place ≡ p → Ran script x) → (y : Object) → Includes after.objects y → y.place ≡ p → Ran script y
   ran_still p k h y m e = let x = stood y m (subst IsOfCollection (sym e) k) in ran_later script x.0 y x.3 (h x.0 x.1 (x.2 ∙ e))
@@ -402,15 +340,7 @@ module _ (script : Script) (w after : World) (rises : Rises 1 w.next_serial w.ob
   ran_at Finalizing h = ran_still Seen tt h
   ran_at (AfterFinalizing o) h = ran_still Seen tt h
   ran_at Split h = ran_still Cand tt h
-  ran_at Start h = tt
-  ran_at (WeakClearing waiting) h = tt
-  ran_at (WeakCalling waiting) h = tt
-  ran_at (AfterCallback weak waiting) h = tt
-  ran_at (AfterRelease weak waiting) h = tt
-  ran_at Turns h = tt
-  ran_at (Turn o) h = tt
-  ran_at (AfterTurn o) h = tt
-  ran_at Ending h = tt
+  ran_at phase h = tt
 
   pub other_primed : ((c : Collection) → Includes after.stack (Collecting c) → Includes w.stack (Collecting c) ⊎ (c.phase ≡ Start)) → Primed script w.objects
       w.stack → Primed script after.objects after.stack

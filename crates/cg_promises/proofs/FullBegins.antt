@@ -1,7 +1,6 @@
 -- The start of a full collection: each candidate is kept, uncollectable, or condemned.
 use Rattle.std.proofs.Common.{◌≡◌, refl, sym, ◌∙◌, ap, subst, ℕ, Bool, true, false, inl, inr, ◌⊎◌, List, [], ◌∷◌, Some}
 use Rattle.std.specs.Prelude.{if◌then◌else◌, is_some, option_and_then}
-use Rattle.cg_value.specs.declared.Place.{Place}
 use Rattle.cg_value.specs.declared.Place.TheVariants.{Untracked, Gen, Cand, Legacy}
 use Rattle.cg_script.specs.declared.Script.{Script}
 use Rattle.cg_graph.specs.Member.{Includes}
@@ -77,9 +76,6 @@ module _ (script : Script) (c : Collection) (below : List Activity) (v : World) 
 
   abbrev new : Object → Object
   new x = place_anew script c below v events after top phase complete rises near faded start (in_merge 2 x)
-
-  abbrev sorting : Object → Place
-  sorting = start.places
 
   module _ (x : Object) (m : Includes v.objects x) where
     abbrev old : Object

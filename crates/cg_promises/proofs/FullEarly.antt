@@ -10,11 +10,11 @@ use Rattle.cg_graph.specs.Member.{Includes}
 use Rattle.cg_graph.specs.Object.{Object, change, is_at, object_at, serials_at, with_place, with_referent}
 use Rattle.cg_graph.proofs.Members.{either}
 use Rattle.cg_machine.specs.declared.event.Event.{Event}
-use Rattle.cg_machine.specs.World.{World, Activity, Collecting, Collection, CollectPhase, Start, WeakClearing, WeakCalling, AfterCallback, AfterRelease, Finalizing, AfterFinalizing, Split, Turns, Turn, AfterTurn, Ending, Running, with_objects, with_stack}
+use Rattle.cg_machine.specs.World.{World, Activity, Collecting, Collection, CollectPhase, WeakClearing, WeakCalling, Finalizing, Split, Running, with_objects, with_stack}
 use Rattle.cg_machine.specs.Frame.{Yields}
 use Rattle.cg_machine.specs.Weak.{loses_referent}
 use Rattle.cg_machine.specs.Dying.{finalizer_to_run}
-use Rattle.cg_machine.specs.Collect.{calls_back, collection_at, looks_at, waits, FinalizingStep, PhaseStep, WeakClearingStep}
+use Rattle.cg_machine.specs.Collect.{collection_at, looks_at, waits, PhaseStep}
 use Rattle.cg_machine.specs.Run.{Run, Step, StepOf, StepTaken, events_of, last_world}
 use Rattle.cg_laws.specs.Laws.{is_enter, is_stop}
 use Rattle.cg_laws.proofs.Lookups.{same_object}
@@ -27,7 +27,6 @@ use Rattle.cg_promises.proofs.FullStop.{phase_quiet}
 use Rattle.cg_promises.proofs.KeptRuns.{starts_none}
 use Rattle.cg_promises.proofs.FinalSetRuns.{none_stops}
 use Rattle.cg_promises.proofs.FinalizerOnceRuns.{Fit, step_fit}
-use Rattle.cg_machine.specs.Program.{profile_of}
 
 -- the phases before the second pass without a frame of the collection
 abbrev pub IsEarly : CollectPhase → Type 0
@@ -38,18 +37,8 @@ IsEarly Split = Unit {0}
 IsEarly phase = ⊥
 
 is_split : (phase : CollectPhase) → (phase ≡ Split) ⊎ (phase ≢ Split)
-is_split Start = inr (λ e. cc)
-is_split (WeakClearing waiting) = inr (λ e. cc)
-is_split (WeakCalling waiting) = inr (λ e. cc)
-is_split (AfterCallback weak waiting) = inr (λ e. cc)
-is_split (AfterRelease weak waiting) = inr (λ e. cc)
-is_split Finalizing = inr (λ e. cc)
-is_split (AfterFinalizing o) = inr (λ e. cc)
 is_split Split = inl refl
-is_split Turns = inr (λ e. cc)
-is_split (Turn o) = inr (λ e. cc)
-is_split (AfterTurn o) = inr (λ e. cc)
-is_split Ending = inr (λ e. cc)
+is_split phase = inr (λ e. cc)
 
 module _ (script : Script) (kept garbage aside : ℕ → Type 0) (start : List Object) (names : List (Option Val)) (below : List Activity) where
   abbrev StandAll : List Object → Type 0
@@ -82,26 +71,6 @@ module _ (script : Script) (kept garbage aside : ℕ → Type 0) (start : List O
     lost_stands weak = test_all (StandsSo kept garbage aside) (with_referent None) (λ x. x.serial == weak) v.objects (λ x m t p. stands_same kept garbage aside
         x (with_referent None x) refl refl p) stands
 
-    weak_clearing_early : (waiting : List ℕ) → WeakClearingStep (profile_of script.items) c waiting below (standing (WeakClearing waiting)) events after → Early after
-    weak_clearing_early waiting (inl step) = to _ step.yields.1 (go (waits v.objects step.weak))
-      where
-        lost : List Object
-        lost = loses_referent step.weak v.objects
-
-        go : (t : Bool) → Early (if t then collection_at c (WeakClearing (waiting ++ step.weak ∷ [])) below
-            (with_objects (change (with_place Pend) step.weak lost) (standing (WeakClearing waiting))) else collection_at c (WeakClearing waiting) below
-            (with_objects lost (standing (WeakClearing waiting))))
-        go true = at (WeakClearing (waiting ++ step.weak ∷ [])) _ tt refl refl
-            (alike_trans script v.objects lost (change (with_place Pend) step.weak lost) (lost_alike step.weak) (test_alike script (with_place Pend)
-            (λ x. x.serial == step.weak) lost (λ x. record { serial = refl; entries = refl; legacy = refl })))
-            (test_all (StandsSo kept garbage aside) (with_place Pend) (λ x. x.serial == step.weak) lost (λ x m t p. (Pending refl, λ a. inr refl)) (lost_stands step.weak))
-        go false = at (WeakClearing waiting) _ tt refl refl (lost_alike step.weak) (lost_stands step.weak)
-    weak_clearing_early waiting (inr step) = to _ step.1.1 (at (WeakCalling waiting) _ tt refl refl (alike_same script v.objects) stands)
-
-    weak_calling_early : (waiting : List ℕ) → Yields (calls_back script c waiting below (standing (WeakCalling waiting))) events after → Early after
-    weak_calling_early [] step = to _ step.1 (at Finalizing _ tt refl refl (alike_same script v.objects) stands)
-    weak_calling_early (weak ∷ waiting) step = absurd (starts_none script _ _ events after step quiet running)
-
     is_cand : (o : ℕ) → Includes (serials_at v.objects Cand) o → (x : Object) → Includes v.objects x → (x.serial == o) ≡ true → x.place ≡ Cand
     is_cand o m x k t =
         let z = stands_at v.objects Cand o m in
@@ -115,16 +84,27 @@ module _ (script : Script) (kept garbage aside : ℕ → Type 0) (start : List O
         (with_place Seen x) refl (wanted_cand x.place (is_cand o i x m t)) tt p) stands))
     looks_at_early o (Some p) i step = absurd (starts_none script _ _ events after step quiet running)
 
-    finalizing_early : FinalizingStep script c below (standing Finalizing) events after → Early after
-    finalizing_early (inl step) = looks_at_early step.object (option_and_then (finalizer_to_run script) (object_at v.objects step.object)) step.condemned step.yields
-    finalizing_early (inr step) = to _ step.1.1 (at Split _ tt refl refl (test_alike script (with_place Cand) (is_at Seen) v.objects (λ x. record { serial = refl; entries = refl; legacy = refl }))
+    phase_early : (phase : CollectPhase) → IsEarly phase → phase ≢ Split → PhaseStep script c phase below (standing phase) events after → Early after
+    phase_early (WeakClearing waiting) early on (inl step) = to _ step.yields.1 (go (waits v.objects step.weak))
+      where
+        lost : List Object
+        lost = loses_referent step.weak v.objects
+
+        go : (t : Bool) → Early (if t then collection_at c (WeakClearing (waiting ++ step.weak ∷ [])) below
+            (with_objects (change (with_place Pend) step.weak lost) (standing (WeakClearing waiting))) else collection_at c (WeakClearing waiting) below
+            (with_objects lost (standing (WeakClearing waiting))))
+        go true = at (WeakClearing (waiting ++ step.weak ∷ [])) _ tt refl refl
+            (alike_trans script v.objects lost (change (with_place Pend) step.weak lost) (lost_alike step.weak) (test_alike script (with_place Pend)
+            (λ x. x.serial == step.weak) lost (λ x. record { serial = refl; entries = refl; legacy = refl })))
+            (test_all (StandsSo kept garbage aside) (with_place Pend) (λ x. x.serial == step.weak) lost (λ x m t p. (Pending refl, λ a. inr refl)) (lost_stands step.weak))
+        go false = at (WeakClearing waiting) _ tt refl refl (lost_alike step.weak) (lost_stands step.weak)
+    phase_early (WeakClearing waiting) early on (inr step) = to _ step.1.1 (at (WeakCalling waiting) _ tt refl refl (alike_same script v.objects) stands)
+    phase_early (WeakCalling []) early on step = to _ step.1 (at Finalizing _ tt refl refl (alike_same script v.objects) stands)
+    phase_early (WeakCalling (weak ∷ waiting)) early on step = absurd (starts_none script _ _ events after step quiet running)
+    phase_early Finalizing early on (inl step) = looks_at_early step.object (option_and_then (finalizer_to_run script) (object_at v.objects step.object)) step.condemned step.yields
+    phase_early Finalizing early on (inr step) = to _ step.1.1 (at Split _ tt refl refl (test_alike script (with_place Cand) (is_at Seen) v.objects (λ x. record { serial = refl; entries = refl; legacy = refl }))
         (test_all (StandsSo kept garbage aside) (with_place Cand) (is_at Seen) v.objects (λ x m t p. stands_wanted kept garbage aside x (with_place Cand x) refl
         (wanted_seen x.place (place_is x.place Seen t)) tt p) stands))
-
-    phase_early : (phase : CollectPhase) → IsEarly phase → phase ≢ Split → PhaseStep script c phase below (standing phase) events after → Early after
-    phase_early (WeakClearing waiting) early on step = weak_clearing_early waiting step
-    phase_early (WeakCalling waiting) early on step = weak_calling_early waiting step
-    phase_early Finalizing early on step = finalizing_early step
     phase_early Split early on step = absurd (on refl)
     phase_early phase early on step = absurd early
 
@@ -153,9 +133,6 @@ module _ (script : Script) (kept garbage aside : ℕ → Type 0) (start : List O
   finds_split w (step ∷ steps) stop run fit quiet more h = go (is_split h.collection.phase) (λ next. finds_split step.world steps stop run.1
       (step_fit script w step.events step.world run.0 fit) (enters_first step.events (events_of steps) quiet).1 more next)
     where
-      found : FoundSplit step.world steps → FoundSplit w (step ∷ steps)
-      found r = record { front = step ∷ r.front; split = r.split; rest = r.rest; is = ap (λ l. step ∷ l) r.is; at = r.at; phase = r.phase }
-
       go : (h.collection.phase ≡ Split) ⊎ (h.collection.phase ≢ Split) → (Early step.world → FoundSplit step.world steps) → FoundSplit w (step ∷ steps)
       go (inl e) later = record { front = []; split = step; rest = steps; is = refl; at = h; phase = e }
-      go (inr on) later = found (later (one_early w step.events step.world run.0 fit (enters_first step.events (events_of steps) quiet).0 (running_still script step.world steps stop run.1) h on))
+      go (inr on) later = record { front = step ∷ (later (one_early w step.events step.world run.0 fit (enters_first step.events (events_of steps) quiet).0 (running_still script step.world steps stop run.1) h on)).front; split = (later (one_early w step.events step.world run.0 fit (enters_first step.events (events_of steps) quiet).0 (running_still script step.world steps stop run.1) h on)).split; rest = (later (one_early w step.events step.world run.0 fit (enters_first step.events (events_of steps) quiet).0 (running_still script step.world steps stop run.1) h on)).rest; is = ap (λ l. step ∷ l) (later (one_early w step.events step.world run.0 fit (enters_first step.events (events_of steps) quiet).0 (running_still script step.world steps stop run.1) h on)).is; at = (later (one_early w step.events step.world run.0 fit (enters_first step.events (events_of steps) quiet).0 (running_still script step.world steps stop run.1) h on)).at; phase = (later (one_early w step.events step.world run.0 fit (enters_first step.events (events_of steps) quiet).0 (running_still script step.world steps stop run.1) h on)).phase }

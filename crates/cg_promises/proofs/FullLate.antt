@@ -1,6 +1,6 @@
 -- A full collection in which no frame begins, from its second reachability pass to its stop: uncollectable objects stay so, or
 -- will run their legacy finalizer; all others are kept, untracked, or members of the final set.
-use Rattle.std.proofs.Common.{◌≡◌, refl, sym, ◌∙◌, ap, subst, ℕ, ◌+◌, Bool, true, false, not, ◌&&◌, inl, inr, List, [], ◌∷◌, ◌++◌, map, length, Option, Some, None}
+use Rattle.std.proofs.Common.{◌≡◌, refl, sym, ◌∙◌, ap, subst, ℕ, ◌+◌, Bool, true, false, not, inl, inr, List, [], ◌∷◌, ◌++◌, map, length, Option, Some, None}
 use Rattle.std.specs.Prelude.{◌==◌, count_by, if◌then◌else◌, is_some, option_and_then}
 use Rattle.std.proofs.lemmas.Bool.{eqb-true}
 use Rattle.cg_value.specs.declared.Val.TheVariants.{Ref}
@@ -9,23 +9,24 @@ use Rattle.cg_value.specs.declared.Place.TheVariants.{Untracked, Gen, Cand}
 use Rattle.cg_script.specs.declared.Script.{Script}
 use Rattle.cg_graph.specs.Member.{Includes}
 use Rattle.cg_graph.specs.Value.{entry_references, item, last_entry, without_last}
-use Rattle.cg_graph.specs.Object.{Object, change, entries_of, is_at, is_tuple, object_at, objects_at, with_entries, with_place, with_referent}
+use Rattle.cg_graph.specs.Object.{Object, change, entries_of, is_at, object_at, objects_at, with_entries, with_place, with_referent}
 use Rattle.cg_graph.proofs.Members.{either, cases_of, true_and, Includes-filter, Includes-filter_cases}
 use Rattle.cg_machine.specs.declared.event.Event.{Event}
-use Rattle.cg_machine.specs.declared.event.Event.TheVariants.{Alive, Collected, GcSaved, GcUncollectable}
+use Rattle.cg_machine.specs.declared.event.Event.TheVariants.{Collected, GcSaved, GcUncollectable}
 use Rattle.cg_machine.specs.Program.{legacy_of}
-use Rattle.cg_machine.specs.World.{World, Activity, TopLevel, Framed, Releasing, Dying, Death, Collecting, Collection, DyingPhase, Finalizer, AfterFinalizer, Clearing, Calling, AfterCall, LegacyFinalizer, AfterLegacy, Detaching, Emptying, CollectPhase, Turns, Turn, AfterTurn, Ending, Running, with_change, with_objects, with_stack, ShuttingDown}
+use Rattle.cg_machine.specs.World.{World, Activity, Releasing, Dying, Death, Collecting, Collection, DyingPhase, Finalizer, AfterFinalizer, Clearing, Calling, AfterCall, LegacyFinalizer, AfterLegacy, Detaching, Emptying, CollectPhase, Turns, Turn, AfterTurn, Ending, Running, with_change, with_stack}
 use Rattle.cg_machine.specs.Holdings.{in_degree, is_dying}
-use Rattle.cg_machine.specs.Frame.{Transition, Yields, begin_death, released}
+use Rattle.cg_machine.specs.Frame.{Yields, begin_death, released}
 use Rattle.cg_machine.specs.Weak.{callback_of, has_weak_references, loses_referent, weak_references_if}
 use Rattle.cg_machine.specs.Dying.{after_frame, call_one, clear_one, death_at, detach_one, dying, empty_one, finalizer_to_run, has_finalizers, run_finalizer, run_legacy}
-use Rattle.cg_machine.specs.Collect.{collection_at, empties, has_flag, lines_if, older, save_all, saved, takes_turn, uncollectable, PhaseStep, TurnsStep}
+use Rattle.cg_machine.specs.Collect.{collection_at, empties, has_flag, lines_if, older, saved, takes_turn, uncollectable, PhaseStep}
 use Rattle.cg_machine.specs.Run.{Run, StepOf, StepTaken, events_of, last_world}
 use Rattle.cg_laws.specs.Laws.{is_enter, is_stop}
 use Rattle.cg_laws.proofs.Lookups.{at_member}
 use Rattle.cg_laws.proofs.Releasing.{none_holds}
 use Rattle.cg_represents.proofs.Serials.{Rises}
 use Rattle.cg_laws.specs.Apart.{handles}
+use Rattle.cg_laws.proofs.Starting.{turn_either, own_frame_either, release_either, option_either}
 use Rattle.cg_represents.proofs.Places.{place_is}
 use Rattle.cg_promises.proofs.FullUncollectable.{Abide, AllWait, Dies, IsAsideBy, IsCalm, IsLegacy, IsLight, abide_same, abide_trans, all_wait, dies_first, dies_under, dies_without, test_abide}
 use Rattle.cg_promises.proofs.FullRuns.{enters_first, running_still}
@@ -102,8 +103,8 @@ module _ (script : Script) (kept aside : ℕ → Type 0) (members : List ℕ) (s
         turned : (n : ℕ) → aside n → Dies (Releasing (o ∷ refs) ∷ tops) n → Dies (Releasing refs ∷ tops) n
         turned n a d = dies_under (Releasing refs) tops n (dies_without (Releasing (o ∷ refs)) tops n (λ e i. cc) d)
 
-        given_late : (b : Bool) → (not (is_dying rest o) && (in_degree rest o == 0)) ≡ b → (let t : Transition = if b then ([], begin_death o rest) else ([], rest) in Late t.1)
-        given_late true e = on_top (Dying begun ∷ Releasing refs ∷ tops) (begin_death o rest) refl
+        given_late : Late (released (o ∷ refs) under v).1
+        given_late = release_either (λ lines. Late) o refs under v (λ e. on_top (Dying begun ∷ Releasing refs ∷ tops) (begin_death o rest) refl
             (with_top (Dying begun) (λ a. (tt, legacy_one (eqb-true (in_degree rest o) 0 (true_and (not (is_dying rest o)) (in_degree rest o == 0) e).1) a))
             (Releasing refs ∷ tops) (with_top (Releasing refs) tt tops light))
             (untracked_rest (λ x. with_referent None (with_place Untracked x)) (λ x. refl) o)
@@ -115,14 +116,14 @@ module _ (script : Script) (kept aside : ℕ → Type 0) (members : List ℕ) (s
               legacy = refl;
               place = λ i. inr (begun, inl refl, sym (eqb-true x.serial o t));
             }))
-            (λ n a d. dies_under (Dying begun) (Releasing refs ∷ tops) n (turned n a d)) wait)
-        given_late false e = on_top (Releasing refs ∷ tops) rest refl (with_top (Releasing refs) tt tops light) rests
-            (all_wait script aside start v.objects v.objects (Releasing (o ∷ refs) ∷ tops) (Releasing refs ∷ tops) (abide_same script aside start (Releasing refs ∷ tops) v.objects) turned wait)
+            (λ n a d. dies_under (Dying begun) (Releasing refs ∷ tops) n (turned n a d)) wait))
+            (λ e. on_top (Releasing refs ∷ tops) rest refl (with_top (Releasing refs) tt tops light) rests
+            (all_wait script aside start v.objects v.objects (Releasing (o ∷ refs) ∷ tops) (Releasing refs ∷ tops) (abide_same script aside start (Releasing refs ∷ tops) v.objects) turned wait))
 
       released_late : (refs : List ℕ) → AllWait script aside start v.objects (Releasing refs ∷ tops) → Late (released refs under (with_stack (Releasing refs ∷ under) v)).1
       released_late [] wait = on_top tops (with_stack under v) refl light rests
           (all_wait script aside start v.objects v.objects (Releasing [] ∷ tops) tops (abide_same script aside start tops v.objects) (λ n a d. dies_without (Releasing []) tops n (λ e i. cc) d) wait)
-      released_late (o ∷ refs) wait = given_late refs o wait (not (is_dying (with_stack (Releasing refs ∷ under) v) o) && (in_degree (with_stack (Releasing refs ∷ under) v) o == 0)) refl
+      released_late (o ∷ refs) wait = given_late refs o wait
 
       module _ (o : ℕ) (phase : DyingPhase) (calm : aside o → IsCalm phase × IsLegacy script aside start o) (wait : AllWait script aside start v.objects
           (Dying (record { object = o; phase = phase }) ∷ tops)) where
@@ -155,12 +156,10 @@ module _ (script : Script) (kept aside : ℕ → Type 0) (members : List ℕ) (s
             (λ n s d. either (dies_first (record { object = o; phase = phase }) tops n d) (λ e. absurd (none (subst aside (sym e) s))) (λ k. k)) wait)
 
         after_frame_late : (next : DyingPhase) → ¬ aside o → Late (after_frame o next under (at phase)).1
-        after_frame_late next none = go (in_degree (at next) o == 0)
-          where
-            go : (b : Bool) → (let t : Transition = if b then ([], with_change (with_place Untracked) o (at next)) else (Alive o ∷ [], with_stack under (at phase)) in Late t.1)
-            go true = dying_to next (with_change (with_place Untracked) o (at next)) refl (λ s. absurd (none s)) (untracked_rest (with_place Untracked)
-                (λ x. refl) o) (other_abide (death next ∷ tops) (with_place Untracked) o none)
-            go false = ended (with_stack under (at phase)) refl none rests (abide_same script aside start tops v.objects)
+        after_frame_late next none = own_frame_either (λ lines. Late) o next under (at phase)
+            (λ t. dying_to next (with_change (with_place Untracked) o (at next)) refl (λ s. absurd (none s)) (untracked_rest (with_place Untracked)
+            (λ x. refl) o) (other_abide (death next ∷ tops) (with_place Untracked) o none))
+            (λ t. ended (with_stack under (at phase)) refl none rests (abide_same script aside start tops v.objects))
 
         -- an uncollectable object has its legacy finalizer to run
         has_one : option_and_then (legacy_of script) (object_at v.objects o) ≡ None → ¬ aside o
@@ -264,41 +263,27 @@ module _ (script : Script) (kept aside : ℕ → Type 0) (members : List ℕ) (s
           (λ x m t a. absurd (apart x.serial a (subst (Includes members) (sym (eqb-true x.serial o t)) k)))
 
       turn_taken : (x : Object) → Includes (objects_at v.objects Cand) x → Late (takes_turn c x below (standing Turns)).1
-      turn_taken x m = go (has_flag c.flags save_all) (is_tuple x)
+      turn_taken x m = turn_either (λ lines. Late) c x below (standing Turns)
+          (λ t. goes_to Turns _ refl tt (λ o i. absurd i) (aged_rest x.serial (saved x.serial v.objects) member (placed_same (λ z. z.entries ++ item (Ref x.serial) ∷ []) (λ z. z.serial == 1)))
+          (abide_trans script aside start [] v.objects (saved x.serial v.objects) _
+          (test_abide script aside start [] (λ z. with_entries (z.entries ++ item (Ref x.serial) ∷ []) z) (λ z. z.serial == 1) v.objects
+          (λ z i e a. record { serial = refl; refers = λ r k. appended z.entries (item (Ref x.serial) ∷ []) r k; legacy = refl; place = λ p. inl p }))
+          (aged_abide x.serial (saved x.serial v.objects) member)))
+          (λ t s. goes_to Turns _ refl tt (λ o i. absurd i) (aged_rest x.serial v.objects member rests) (aged_abide x.serial v.objects member))
+          (λ t s. goes_to (Turn x.serial) _ refl tt (λ o i. either i (λ e. subst (Includes members) e member) (λ k. absurd k)) rests (abide_same script aside start [] v.objects))
         where
           member : Includes members x.serial
           member = let at = Includes-filter_cases (is_at Cand) v.objects x m in (rests x at.0).1 (place_is x.place Cand at.1)
 
-          go : (s t : Bool) → (let next : Transition = if s
-              then (
-                GcSaved x.serial ∷ [],
-                collection_at c Turns below (with_objects (change (with_place (Gen (older c.generation))) x.serial
-                    (saved x.serial v.objects)) (standing Turns)),
-              )
-              else if t then ([], collection_at c Turns below (with_change (with_place (Gen (older c.generation))) x.serial (standing Turns)))
-              else ([], collection_at c (Turn x.serial) below (standing Turns)) in Late next.1)
-          go true t = goes_to Turns _ refl tt (λ o i. absurd i) (aged_rest x.serial (saved x.serial v.objects) member (placed_same (λ z. z.entries ++ item (Ref x.serial) ∷ []) (λ z. z.serial == 1)))
-              (abide_trans script aside start [] v.objects (saved x.serial v.objects) _
-              (test_abide script aside start [] (λ z. with_entries (z.entries ++ item (Ref x.serial) ∷ []) z) (λ z. z.serial == 1) v.objects
-              (λ z i e a. record { serial = refl; refers = λ r k. appended z.entries (item (Ref x.serial) ∷ []) r k; legacy = refl; place = λ p. inl p }))
-              (aged_abide x.serial (saved x.serial v.objects) member))
-          go false true = goes_to Turns _ refl tt (λ o i. absurd i) (aged_rest x.serial v.objects member rests) (aged_abide x.serial v.objects member)
-          go false false = goes_to (Turn x.serial) _ refl tt (λ o i. either i (λ e. subst (Includes members) e member) (λ k. absurd k)) rests (abide_same script aside start [] v.objects)
-
-      turns_late : TurnsStep c below (standing Turns) events after → Late after
-      turns_late (inl step) = to after _ step.yields.1 (turn_taken step.object step.member)
-      turns_late (inr step) = to after _ step.1.1 (goes_to Ending _ refl tt (λ o i. absurd i) rests (abide_same script aside start [] v.objects))
-
-      empties_late : (o : ℕ) (m : Option Entry) → Includes members o → Late (empties c o below (standing (Turn o)) m).1
-      empties_late o None k = gives (o ∷ []) (AfterTurn o) _ refl tt (λ p i. either i (λ e. subst (Includes members) e k) (λ n. absurd n)) rests
-          (abide_same script aside start (Releasing (o ∷ []) ∷ []) v.objects)
-      empties_late o (Some entry) k = gives (entry_references entry) (Turn o) _ refl tt (λ p i. either i (λ e. subst (Includes members) e k) (λ n. absurd n))
-          (placed_same (λ x. without_last (entries_of v.objects o)) (λ x. x.serial == o))
-          (other_abide (Releasing (entry_references entry) ∷ []) (with_entries (without_last (entries_of v.objects o))) o (λ a. apart o a k))
-
       phase_late : (phase : CollectPhase) → IsLate phase → TurnsAre phase → PhaseStep script c phase below (standing phase) events after → Late after
-      phase_late Turns late t step = turns_late step
-      phase_late (Turn o) late t step = to after _ step.1 (empties_late o (last_entry (entries_of v.objects o)) (t o (inl refl)))
+      phase_late Turns late t (inl step) = to after _ step.yields.1 (turn_taken step.object step.member)
+      phase_late Turns late t (inr step) = to after _ step.1.1 (goes_to Ending _ refl tt (λ o i. absurd i) rests (abide_same script aside start [] v.objects))
+      phase_late (Turn o) late t step = to after _ step.1 (option_either (λ lines. Late) (empties c o below (standing (Turn o))) (last_entry (entries_of v.objects o))
+          (λ is. gives (o ∷ []) (AfterTurn o) _ refl tt (λ p i. either i (λ e. subst (Includes members) e (t o (inl refl))) (λ n. absurd n)) rests
+          (abide_same script aside start (Releasing (o ∷ []) ∷ []) v.objects))
+          (λ entry is. gives (entry_references entry) (Turn o) _ refl tt (λ p i. either i (λ e. subst (Includes members) e (t o (inl refl))) (λ n. absurd n))
+          (placed_same (λ x. without_last (entries_of v.objects o)) (λ x. x.serial == o))
+          (other_abide (Releasing (entry_references entry) ∷ []) (with_entries (without_last (entries_of v.objects o))) o (λ a. apart o a (t o (inl refl))))))
       phase_late (AfterTurn o) late t step = to after _ step.1 (goes_to Turns _ refl tt (λ p i. absurd i) (aged_rest o v.objects (t o (inl refl)) rests) (aged_abide o v.objects (t o (inl refl))))
       phase_late Ending late t step = absurd (stops (lines_if (has_flag c.flags uncollectable) (map GcUncollectable step.told) ++ map GcSaved step.keeps)
           c.generation c.collected (length step.told) (lines_if c.asked (Collected (c.collected + length step.told) ∷ [])) events step.lines on)
@@ -308,13 +293,10 @@ module _ (script : Script) (kept aside : ℕ → Type 0) (members : List ℕ) (s
         → (tops : List Activity) (c : Collection) → IsLate c.phase → AllLight tops → TurnsAre c.phase → AllWait script aside start v.objects tops
         → StepOf script (with_stack (tops ++ Collecting c ∷ below) v) (tops ++ Collecting c ∷ below) events after → Late after
     step_late events after quiet on running [] c late light turn wait step = phase_late c turn wait events after quiet on c.phase late turn step
-    step_late events after quiet on running (TopLevel commands ∷ tops) c late light turn wait step = absurd (light (TopLevel commands) (inl refl))
-    step_late events after quiet on running (Framed f ∷ tops) c late light turn wait step = absurd (light (Framed f) (inl refl))
-    step_late events after quiet on running (ShuttingDown started ∷ tops) c late light turn wait step = absurd (light (ShuttingDown started) (inl refl))
     step_late events after quiet on running (Releasing refs ∷ tops) c late light turn wait step = to after _ step.1 (released_late tops c late (λ a m. light a (inr m)) turn refs wait)
     step_late events after quiet on running (Dying d ∷ tops) c late light turn wait step = dying_late tops c late (λ a m. light a (inr m)) turn d.object d.phase
         (light (Dying d) (inl refl)) wait events after quiet running step
-    step_late events after quiet on running (Collecting e ∷ tops) c late light turn wait step = absurd (light (Collecting e) (inl refl))
+    step_late events after quiet on running (a ∷ tops) c late light turn wait step = absurd (light a (inl refl))
 
   -- until the stop
   pub late_after : (w : World) (steps : List StepTaken) (stop : StepTaken) → Run script w (steps ++ stop ∷ []) → Fit script w

@@ -46,9 +46,8 @@ start_quiet script w c below events after step = subst NoStop (sym step.lines)
     sizes false e m = absurd m
 
     collected : (b : Bool) (ns : List ℕ) (e : Event) → Includes (lines_if b (map GcCollectable ns)) e → is_stop e ≡ false
-    collected true [] e m = absurd m
     collected true (n ∷ ns) e m = either m (λ s. subst (λ z. is_stop z ≡ false) s refl) (λ k. collected true ns e k)
-    collected false ns e m = absurd m
+    collected b ns e m = absurd m
 
 module _ (script : Script) (budget : ℕ) (before : List StepTaken) (run : IsRun script budget before) (f : StartsFull (world_after script budget before)) where
   abbrev w : World

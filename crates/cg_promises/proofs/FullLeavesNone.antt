@@ -9,7 +9,7 @@ use Rattle.cg_graph.specs.Member.{Includes}
 use Rattle.cg_graph.specs.Value.{references}
 use Rattle.cg_graph.specs.Object.{Object, serials_at}
 use Rattle.cg_graph.proofs.Members.{either, cases_of, Includes-map}
-use Rattle.cg_machine.specs.World.{World, Activity, TopLevel, Framed, Releasing, Dying, Collecting, Collection, Split, Turns, Ending, opening, with_stack, ShuttingDown}
+use Rattle.cg_machine.specs.World.{World, Activity, Releasing, Dying, Collecting, Collection, Split, Turns, Ending, opening, with_stack}
 use Rattle.cg_machine.specs.Collect.{has_flag, is_condemned, save_all, EndStep, PhaseStep, SplitStep}
 use Rattle.cg_machine.specs.Run.{IsRun, Run, Step, StepOf, StepTaken, events_of, last_world, world_after}
 use Rattle.cg_laws.specs.Laws.{FullCollectionLeavesNone, NoGarbageIsLeft, Splits, StartsFull, final_set, is_enter, is_stop}
@@ -54,12 +54,9 @@ stops_both : (front back : List StepTaken) → count_by is_stop (events_of (fron
 stops_both front back e = none_first (events_of front) (events_of back) (subst (λ es. count_by is_stop es ≡ 0) (events_of-append front back) e)
 
 light_bare : (script : Script) (aside : ℕ → Type 0) (start : List Object) (a : Activity) → IsLight script aside start a → IsBare (λ n. ⊥) a
-light_bare script aside start (TopLevel commands) k = k
-light_bare script aside start (Framed f) k = k
-light_bare script aside start (ShuttingDown started) k = k
 light_bare script aside start (Releasing refs) k = tt
 light_bare script aside start (Dying d) k = λ n. n
-light_bare script aside start (Collecting c) k = k
+light_bare script aside start a k = k
 
 module _ (script : Script) (budget : ℕ) (before : List StepTaken) (known : TextsAreKnown script) (run : IsRun script budget before) (f : StartsFull (world_after script budget before)) where
   abbrev v : World

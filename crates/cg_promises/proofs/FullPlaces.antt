@@ -1,15 +1,15 @@
 -- Where an object may be during a full collection in which no frame begins: before the second reachability pass, and after it.
-use Rattle.std.proofs.Common.{◌≡◌, refl, sym, ◌∙◌, subst, ℕ, Bool, true, false, inl, inr, ◌⊎◌, List, map}
+use Rattle.std.proofs.Common.{◌≡◌, refl, sym, ◌∙◌, subst, ℕ, Bool, true, inl, inr, ◌⊎◌, List, map}
 use Rattle.std.specs.Prelude.{if◌then◌else◌}
 use Rattle.cg_value.specs.declared.Place.{Place}
 use Rattle.cg_value.specs.declared.Place.TheVariants.{Untracked, Cand, Seen, Legacy, Pend}
 use Rattle.cg_script.specs.declared.Script.{Script}
 use Rattle.cg_graph.specs.Member.{Includes}
 use Rattle.cg_graph.specs.Object.{Object}
-use Rattle.cg_graph.proofs.Members.{Includes-map_cases}
 use Rattle.cg_machine.specs.Program.{legacy_of}
 use Rattle.cg_promises.proofs.FinalizersDone.{IsWanted}
-use Rattle.cg_laws.proofs.Pointwise.{IsOrder, Came, Lasts, came, came_if, came_map, lasts, lasts_if, lasts_map}
+use Rattle.cg_laws.proofs.Pointwise.{IsOrder, Came, Lasts, came, came_if, lasts, lasts_if}
+use Rattle.cg_represents.proofs.Lists.{each_changed}
 
 -- Before the second reachability pass. `kept` is what was reachable at the start, `aside` what was uncollectable
 -- then.
@@ -40,11 +40,7 @@ RestsSo kept aside members y = Rests kept aside members y × (y.place ≡ Cand �
 
 pub test_all : (P : Object → Type 0) (f : Object → Object) (test : Object → Bool) (objects : List Object) → ((x : Object) → Includes objects x → test x ≡ true
     → P x → P (f x)) → ((x : Object) → Includes objects x → P x) → (y : Object) → Includes (map (λ x. if test x then f x else x) objects) y → P y
-test_all P f test objects h all y m = let x = Includes-map_cases (λ x. if test x then f x else x) objects y m in subst P x.2 (one (test x.0) x.0 refl x.1 (all x.0 x.1))
-  where
-    one : (b : Bool) (x : Object) → test x ≡ b → Includes objects x → P x → P (if b then f x else x)
-    one true x t m p = h x m t p
-    one false x t m p = p
+test_all P f test objects h all = each_changed P f test objects (λ x m t. h x m t (all x m)) (λ x m t. all x m)
 
 module _ (kept garbage aside : ℕ → Type 0) where
   pub stands_same : (x y : Object) → y.serial ≡ x.serial → y.place ≡ x.place → StandsSo kept garbage aside x → StandsSo kept garbage aside y
@@ -112,9 +108,6 @@ alike_trans script before now after h k = record {
 
 pub alike_same : (script : Script) (objects : List Object) → AreAlike script objects objects
 alike_same script objects = record { there = (lasts (Alike script) (alike script)).same objects; back = (came (Alike script) (alike script)).same objects }
-
-pub map_alike : (script : Script) (f : Object → Object) (objects : List Object) → ((x : Object) → Alike script x (f x)) → AreAlike script objects (map f objects)
-map_alike script f objects h = record { there = lasts_map (Alike script) (alike script).same f objects (λ x m. h x); back = came_map (Alike script) (alike script).same f objects (λ x m. h x) }
 
 pub test_alike : (script : Script) (f : Object → Object) (test : Object → Bool) (objects : List Object) → ((x : Object) → Alike script x (f x))
     → AreAlike script objects (map (λ x. if test x then f x else x) objects)

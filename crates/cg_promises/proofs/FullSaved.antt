@@ -8,15 +8,15 @@ use Rattle.cg_value.specs.declared.Place.TheVariants.{Gen, Cand}
 use Rattle.cg_script.specs.declared.Script.{Script}
 use Rattle.cg_graph.specs.Member.{Includes}
 use Rattle.cg_graph.specs.Value.{entry_references, item, references}
-use Rattle.cg_graph.specs.Object.{Object, change, is_tuple, serials, with_entries, with_place}
+use Rattle.cg_graph.specs.Object.{Object, change, serials, with_entries, with_place}
 use Rattle.cg_graph.proofs.Members.{either, cases_of, Includes-append_right, Includes-map, Includes-map_cases}
 use Rattle.cg_machine.specs.declared.event.Event.{Event}
 use Rattle.cg_machine.specs.declared.event.Event.TheVariants.{Collected, GcSaved, GcUncollectable}
-use Rattle.cg_machine.specs.World.{World, Activity, Collecting, Collection, CollectPhase, Turns, Turn, Ending, with_change, with_objects, with_stack}
-use Rattle.cg_machine.specs.Frame.{Transition}
-use Rattle.cg_machine.specs.Collect.{all_saved, collection_at, has_flag, lines_if, older, save_all, saved, takes_turn, uncollectable, PhaseStep, TurnsStep}
+use Rattle.cg_machine.specs.World.{World, Activity, Collecting, Collection, CollectPhase, Turns, Ending, with_stack}
+use Rattle.cg_machine.specs.Collect.{all_saved, collection_at, has_flag, lines_if, older, save_all, saved, takes_turn, uncollectable, PhaseStep}
 use Rattle.cg_machine.specs.Run.{Run, StepOf, StepTaken, events_of, last_world}
 use Rattle.cg_laws.specs.Laws.{is_stop}
+use Rattle.cg_laws.proofs.Starting.{turn_either}
 use Rattle.cg_promises.proofs.FullPlaces.{test_all}
 use Rattle.cg_promises.proofs.FullStop.{Grows, all_saved_grow, grows_trans, test_grows}
 use Rattle.cg_promises.proofs.Kept.{appended}
@@ -96,26 +96,14 @@ module _ (script : Script) (members : List ℕ) (below : List Activity) where
         (test_all (λ y. y.serial ≡ n → y.place ≡ Cand) (λ x. with_entries (x.entries ++ item (Ref o) ∷ []) x) (λ x. x.serial == 1) v.objects (λ x m t p. p) cand)))
 
     turn_saved : (x : Object) → Saves (takes_turn c x below (standing Turns)).1
-    turn_saved x = go (has_flag c.flags save_all) saves (is_tuple x)
-      where
-        go : (s : Bool) → s ≡ true → (t : Bool)
-            → (let next : Transition = if s
-            then (
-              GcSaved x.serial ∷ [],
-              collection_at c Turns below (with_objects (change (with_place (Gen (older c.generation))) x.serial
-                  (saved x.serial v.objects)) (standing Turns)),
-            )
-            else if t then ([], collection_at c Turns below (with_change (with_place (Gen (older c.generation))) x.serial (standing Turns)))
-            else ([], collection_at c (Turn x.serial) below (standing Turns)) in Saves next.1)
-        go true e t = record { collection = record c { phase = Turns }; is = refl; phase = tt; saves = saves; all = λ n k. saved_one x.serial n (all n k) }
-        go false e t = absurd (let no : false ≡ true = e in cc)
-
-    turns_saved : TurnsStep c below (standing Turns) events after → Saves after
-    turns_saved (inl step) = subst Saves (sym step.yields.1) (turn_saved step.object)
-    turns_saved (inr step) = subst Saves (sym step.1.1) (record { collection = record c { phase = Ending }; is = refl; phase = tt; saves = saves; all = all })
+    turn_saved x = turn_either (λ lines. Saves) c x below (standing Turns)
+        (λ e. record { collection = record c { phase = Turns }; is = refl; phase = tt; saves = saves; all = λ n k. saved_one x.serial n (all n k) })
+        (λ e t. absurd (let no : false ≡ true = sym e ∙ saves in cc))
+        (λ e t. absurd (let no : false ≡ true = sym e ∙ saves in cc))
 
     phase_saved : (phase : CollectPhase) → IsSaving phase → PhaseStep script c phase below (standing phase) events after → Saves after
-    phase_saved Turns k step = turns_saved step
+    phase_saved Turns k (inl step) = subst Saves (sym step.yields.1) (turn_saved step.object)
+    phase_saved Turns k (inr step) = subst Saves (sym step.1.1) (record { collection = record c { phase = Ending }; is = refl; phase = tt; saves = saves; all = all })
     phase_saved Ending k step = absurd (stops (lines_if (has_flag c.flags uncollectable) (map GcUncollectable step.told) ++ map GcSaved step.keeps) c.generation
         c.collected (length step.told) (lines_if c.asked (Collected (c.collected + length step.told) ∷ [])) events step.lines on)
     phase_saved phase k step = absurd k

@@ -155,16 +155,13 @@ module _ (script : Script) (v : World) (c : Collection) (below : List Activity) 
       go (Condemned k g n) = wanted (wanted_is y.place k)
       go (SetAside u a) = a (λ k. aside_holds y x i m e r k)
 
-  first_none : (o : ℕ) → occurrences o (entry_holdings (graph_of (objects_at w.objects Cand))) < occurrences o (holdings w) → IsMemberOf w Cand o → ⊥
-  first_none o less inside = go (stands_at w.objects Cand o inside)
+  no_survivor : (o : ℕ) → ¬ Survives w Cand o
+  no_survivor o (first held inside) = go (stands_at w.objects Cand o inside)
     where
       go : ((x : Object) × Includes w.objects x × (is_at Cand x ≡ true) × (x.serial ≡ o)) → ⊥
-      go x = either (held_outside w (is_at Cand) x.0.serial (subst (λ n. occurrences n (entry_holdings (graph_of (objects_at w.objects Cand))) < occurrences n (holdings w)) (sym x.3) less))
+      go x = either (held_outside w (is_at Cand) x.0.serial (subst (λ n. occurrences n (entry_holdings (graph_of (objects_at w.objects Cand))) < occurrences n (holdings w)) (sym x.3) held))
           (λ r. not_kept x.0 x.1 (place_is x.0.place Cand x.2) (root_kept x.0 x.1 r))
           (λ y. none_outside y.0 x.0 y.1 y.2 x.1 (place_is x.0.place Cand x.2) y.3)
-
-  no_survivor : (o : ℕ) → ¬ Survives w Cand o
-  no_survivor o (first held inside) = first_none o held inside
   no_survivor o (further path step inside) = no_survivor _ path
 
   module _ (d : Collection) (events : List Event) (after : World) (step : SplitStep d below w events after) (rightly_after : (x : Object) → Includes step.objects x → IsInLatePhase x) where

@@ -4,7 +4,7 @@ use Rattle.std.proofs.Common.{◌≡◌, ◌≢◌, refl, sym, ◌∙◌, ap, su
 use Rattle.std.specs.Prelude.{cond, flat_map, if◌then◌else◌}
 use Rattle.std.proofs.lemmas.Bool.{le-leb}
 use Rattle.cg_value.specs.declared.Place.{Place}
-use Rattle.cg_value.specs.declared.Place.TheVariants.{Untracked, Gen, Frozen, Cand, Seen, Back, Legacy, Pend}
+use Rattle.cg_value.specs.declared.Place.TheVariants.{Untracked, Gen, Frozen}
 use Rattle.cg_graph.specs.Member.{Includes, includes}
 use Rattle.cg_graph.specs.Value.{references}
 use Rattle.cg_graph.specs.Object.{Object, is_at, objects_at, same_place, serials, with_place}
@@ -13,7 +13,7 @@ use Rattle.cg_graph.specs.declared.Edge.{Edge}
 use Rattle.cg_graph.specs.Reach.{edges, first, next as further}
 use Rattle.cg_graph.proofs.Objects.{occurrences-append}
 use Rattle.cg_graph.proofs.Members.{either, cases_of, Includes-append_cases, Includes-filter, Includes-filter_cases, Includes-map, Includes-map_cases, Includes-of, includes-of}
-use Rattle.cg_machine.specs.World.{World, Dying, Death, DyingPhase, Finalizer, AfterFinalizer, Clearing, Calling, AfterCall, LegacyFinalizer, AfterLegacy, Detaching, Emptying}
+use Rattle.cg_machine.specs.World.{World, Dying, Death, DyingPhase, AfterFinalizer, AfterLegacy}
 use Rattle.cg_machine.specs.Holdings.{dying_holds, holdings, holds, is_dying}
 use Rattle.cg_machine.specs.Collect.{merged, merged_place, IsGarbage, IsMemberOf, Survives}
 use Rattle.cg_represents.specs.Orderly.{runs_own_frame}
@@ -21,10 +21,11 @@ use Rattle.cg_laws.specs.Laws.{IsOfCollection}
 use Rattle.cg_represents.proofs.Lists.{present, no_times}
 use Rattle.cg_laws.proofs.Lookups.{same_object}
 use Rattle.cg_represents.proofs.Serials.{Rises}
+use Rattle.cg_represents.proofs.Representing.{death_found as death_on}
 use Rattle.cg_laws.proofs.Unheld.{held_by_member}
+use Rattle.cg_laws.proofs.Condemned.{filter_holdings}
 use Rattle.cg_promises.specs.Reached.{IsReached}
-use Rattle.cg_promises.proofs.FinalSetFreed.{death_on}
-use Rattle.cg_promises.proofs.FinalSetStart.{edge, edge_of, less_held, more_held}
+use Rattle.cg_promises.proofs.FinalSetStart.{edge, edge_of, more_held}
 use Rattle.cg_promises.proofs.UntrackedStay.{IsSlackWorld}
 use Rattle.cg_promises.proofs.UntrackedStayRuns.{death_found}
 use Rattle.cg_promises.proofs.Generations.{IsYoung}
@@ -79,27 +80,17 @@ same_graph g [] = refl
 same_graph g (x ∷ objects) = ap (λ (gr : Graph). (x.serial, x.entries) ∷ gr) (same_graph g objects)
 
 -- a death holds its object while the object's own code runs
-own_held : (o : ℕ) (phase : DyingPhase) → runs_own_frame phase ≡ true → Includes (dying_holds o phase) o
+pub own_held : (o : ℕ) (phase : DyingPhase) → runs_own_frame phase ≡ true → Includes (dying_holds o phase) o
 own_held o AfterFinalizer e = inl refl
 own_held o AfterLegacy e = inl refl
-own_held o Finalizer e = absurd (let k : false ≡ true = e in cc)
-own_held o (Clearing waiting) e = absurd (let k : false ≡ true = e in cc)
-own_held o (Calling waiting) e = absurd (let k : false ≡ true = e in cc)
-own_held o (AfterCall weak callback waiting) e = absurd (let k : false ≡ true = e in cc)
-own_held o LegacyFinalizer e = absurd (let k : false ≡ true = e in cc)
-own_held o Detaching e = absurd (let k : false ≡ true = e in cc)
-own_held o Emptying e = absurd (let k : false ≡ true = e in cc)
+own_held o phase e = absurd (let k : false ≡ true = e in cc)
 
 -- a full collection examines every tracked object
 pub looked_at : (p : Place) → IsYoung p → ¬ IsOfCollection p → p ≢ Frozen → (p ≡ Untracked) ⊎ (same_place (merged_place 2 p) (Gen 2) ≡ true)
 looked_at Untracked young apart thawed = inl refl
 looked_at (Gen i) young apart thawed = inr (ap (λ b. same_place (if b then Gen 2 else Gen i) (Gen 2)) (le-leb i 2 young))
 looked_at Frozen young apart thawed = absurd (thawed refl)
-looked_at Cand young apart thawed = absurd (apart tt)
-looked_at Seen young apart thawed = absurd (apart tt)
-looked_at Back young apart thawed = absurd (apart tt)
-looked_at Legacy young apart thawed = absurd (apart tt)
-looked_at Pend young apart thawed = absurd (apart tt)
+looked_at p young apart thawed = absurd (apart tt)
 
 module _ (w : World) (rises : Rises 1 w.next_serial w.objects) (near : (x : Object) → Includes w.objects x → (x.place ≡ Untracked) ⊎ (is_at (Gen 2) (in_merge 2 x) ≡ true)) where
   abbrev now : World
@@ -143,7 +134,7 @@ module _ (w : World) (rises : Rises 1 w.next_serial w.objects) (near : (x : Obje
 
   -- held by a name, the garbage root or an activity
   held_first : (o : ℕ) → Includes (flat_map holds w.stack) o → IsMemberOf now (Gen 2) o → Survives now (Gen 2) o
-  held_first o k m = let more = present o (flat_map holds w.stack) k in let less = less_held (is_at (Gen 2)) now.objects o
+  held_first o k m = let more = present o (flat_map holds w.stack) k in let less = filter_holdings (is_at (Gen 2)) now.objects o
       in first (omega (arith, more, less, same_entries o, count_holdings o, parts o)) m
 
   -- what is reachable survives
@@ -168,7 +159,7 @@ module _ (w : World) (rises : Rises 1 w.next_serial w.objects) (near : (x : Obje
             further (before member) (subst (λ n. Includes (edges (graph_of members)) (edge n q)) s (edge_of members (in_merge 2 y) q at r)) m
 
     pub reached_survives : (o : ℕ) → IsReached w o → IsMemberOf now (Gen 2) o → Survives now (Gen 2) o
-    reached_survives o (first held inside) m = either held (dying_survives o m) (λ more. let less = less_held (is_at (Gen 2)) now.objects o
+    reached_survives o (first held inside) m = either held (dying_survives o m) (λ more. let less = filter_holdings (is_at (Gen 2)) now.objects o
         in first (omega (arith, more, less, same_entries o, count_holdings o)) m)
     reached_survives o (further path arrow inside) m = next_one _ o (λ k. reached_survives _ path k) arrow m
 
@@ -189,8 +180,8 @@ module _ (w : World) (rises : Rises 1 w.next_serial w.objects) (near : (x : Obje
         (λ d. first (inl (death_found y.serial d.0 w.stack d.1 d.2)) (Includes-map (λ (q : Object). q.serial) w.objects y i))))
         (λ k. let x = Includes-map_cases (λ (q : Object). q.serial) w.objects o (member_lives o m) in absurd (member_tracked o m x.0 x.1 x.2 (k.1 o r x.0 x.1 x.2).1))
 
-    first_one : (o : ℕ) → occurrences o (entry_holdings (graph_of members)) < occurrences o (holdings now) → IsMemberOf now (Gen 2) o → IsReached w o
-    first_one o less m = go (cases_of (includes others o))
+    pub survives_reached : (o : ℕ) → Survives now (Gen 2) o → IsReached w o
+    survives_reached o (first held inside) = go (cases_of (includes others o))
       where
         others : List ℕ
         others = name_holdings w.names ++ (1 ∷ []) ++ flat_map holds w.stack
@@ -199,23 +190,17 @@ module _ (w : World) (rises : Rises 1 w.next_serial w.objects) (near : (x : Obje
         sum = let a = occurrences-append o (name_holdings w.names ++ (1 ∷ [])) (flat_map holds w.stack) in let b = occurrences-append o (name_holdings w.names) (1 ∷ []) in omega (arith, a, b)
 
         go : (includes others o ≡ true) ⊎ (includes others o ≡ false) → IsReached w o
-        go (inl t) = let more = present o others (Includes-of others o t) in outside o (omega (arith, more, sum)) (member_lives o m)
+        go (inl t) = let more = present o others (Includes-of others o t) in outside o (omega (arith, more, sum)) (member_lives o inside)
         go (inr f) =
             let none = no_times o others (λ k. let no : true ≡ false = sym (includes-of others o k) ∙ f in cc) in
-            let y = some_outside (is_at (Gen 2)) now.objects o (omega (arith, less, none, sum, same_entries o, count_holdings o, parts o)) in
+            let y = some_outside (is_at (Gen 2)) now.objects o (omega (arith, held, none, sum, same_entries o, count_holdings o, parts o)) in
             let x = Includes-map_cases (in_merge 2) w.objects y.0 y.1 in
             by_untracked x.0 o x.1 (either (near x.0 x.1) (λ u. u) (λ t. absurd (let no : true ≡ false = sym t ∙ ap (is_at (Gen 2)) x.2 ∙ y.2 in cc)))
-            (subst (λ (q : Object). Includes (references q.entries) o) (sym x.2) y.3) m
-
-    next_back : (p q : ℕ) → IsReached w p → Includes (edges (graph_of members)) (edge p q) → IsMemberOf now (Gen 2) q → IsReached w q
-    next_back p q path arrow m =
-        let y = edge_from members p q arrow in
+            (subst (λ (q : Object). Includes (references q.entries) o) (sym x.2) y.3) inside
+    survives_reached o (further path arrow inside) =
+        let y = edge_from members _ o arrow in
         let x = Includes-map_cases (in_merge 2) w.objects y.0 (Includes-filter_cases (is_at (Gen 2)) now.objects y.0 y.1).0 in
-        by_entry x.0 q x.1 (subst (λ (z : Object). Includes (references z.entries) q) (sym x.2) y.3) (member_lives q m) (subst (IsReached w) (sym (ap (λ (z : Object). z.serial) x.2 ∙ y.2)) path)
-
-    pub survives_reached : (o : ℕ) → Survives now (Gen 2) o → IsReached w o
-    survives_reached o (first held inside) = first_one o held inside
-    survives_reached o (further path arrow inside) = next_back _ o (survives_reached _ path) arrow inside
+        by_entry x.0 o x.1 (subst (λ (z : Object). Includes (references z.entries) o) (sym x.2) y.3) (member_lives o inside) (subst (IsReached w) (sym (ap (λ (z : Object). z.serial) x.2 ∙ y.2)) (survives_reached _ path))
 
     -- an unreachable candidate is garbage
     pub unreached_garbage : (o : ℕ) → IsMemberOf now (Gen 2) o → ¬ IsReached w o → IsGarbage now (Gen 2) o

@@ -10,7 +10,7 @@ use Rattle.cg_graph.specs.Object.{Object, is_at, with_entries, with_place}
 use Rattle.cg_graph.proofs.Members.{either, Includes-map}
 use Rattle.cg_machine.specs.declared.event.Event.{Event}
 use Rattle.cg_machine.specs.declared.event.Event.TheVariants.{BudgetSpent, Enter, Free, GcStop}
-use Rattle.cg_machine.specs.World.{World, Activity, TopLevel, Framed, Releasing, Dying, Collecting, Collection, CollectPhase, Start, Ending, with_stack, ShuttingDown}
+use Rattle.cg_machine.specs.World.{World, Activity, Releasing, Dying, Collecting, Collection, CollectPhase, Start, Ending, with_stack}
 use Rattle.cg_machine.specs.Holdings.{collect_holds}
 use Rattle.cg_machine.specs.Collect.{all_saved, older, saved, EndStep, PhaseStep}
 use Rattle.cg_machine.specs.Run.{StepOf}
@@ -57,16 +57,13 @@ pub stop_ends : (script : Script) (kept : ℕ → Type 0) (v : World) (below : L
     → StepOf script (with_stack (tops ++ Collecting c ∷ below) v) (tops ++ Collecting c ∷ below) events after → (tops ≡ []) × (c.phase ≡ Ending)
 stop_ends script kept v below events after [] c bare begun more step = either (phase_quiet script c below v events after step) (λ e. (refl, e))
     (λ q. absurd (let none = none_stops events q in omega (arith, none, more)))
-stop_ends script kept v below events after (TopLevel commands ∷ tops) c bare begun more step = absurd (bare (TopLevel commands) (inl refl))
-stop_ends script kept v below events after (Framed f ∷ tops) c bare begun more step = absurd (bare (Framed f) (inl refl))
-stop_ends script kept v below events after (ShuttingDown started ∷ tops) c bare begun more step = absurd (bare (ShuttingDown started) (inl refl))
 stop_ends script kept v below events after (Releasing refs ∷ tops) c bare begun more step =
     absurd (let none = none_stops events (subst NoStop (sym step.0) (advance_quiet script v (Releasing refs) (tops ++ Collecting c ∷ below) _ _ (λ k. k)
     (released_advances script refs (tops ++ Collecting c ∷ below) v))) in omega (arith, none, more))
 stop_ends script kept v below events after (Dying d ∷ tops) c bare begun more step =
     absurd (let none = none_stops events (subst NoStop (sym step.0) (advance_quiet script v (Dying d) (tops ++ Collecting c ∷ below) _ _ (λ k. k)
     (dying_advances script d.object (tops ++ Collecting c ∷ below) v d.phase))) in omega (arith, none, more))
-stop_ends script kept v below events after (Collecting e ∷ tops) c bare begun more step = absurd (bare (Collecting e) (inl refl))
+stop_ends script kept v below events after (a ∷ tops) c bare begun more step = absurd (bare a (inl refl))
 
 -- What the end does: only the garbage list gets references, and objects move.
 abbrev pub Grows : List Object → List Object → Type 0

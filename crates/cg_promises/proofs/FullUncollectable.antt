@@ -9,7 +9,7 @@ use Rattle.cg_graph.specs.Value.{references}
 use Rattle.cg_graph.specs.Object.{Object}
 use Rattle.cg_graph.proofs.Members.{either, Includes-map}
 use Rattle.cg_machine.specs.Program.{legacy_of}
-use Rattle.cg_machine.specs.World.{Activity, TopLevel, Framed, Releasing, Dying, Death, Collecting, DyingPhase, Finalizer, Clearing, Calling, LegacyFinalizer, ShuttingDown}
+use Rattle.cg_machine.specs.World.{Activity, Releasing, Dying, Death, DyingPhase, Finalizer, Clearing, Calling, LegacyFinalizer}
 
 -- one of the activities is its death
 abbrev pub Dies : List Activity → ℕ → Type 0
@@ -46,12 +46,9 @@ module _ (script : Script) (aside : ℕ → Type 0) (start : List Object) where
 
   -- on top of the collection: releases and deaths; the death of an uncollectable object will run its legacy finalizer
   abbrev pub IsLight : Activity → Type 0
-  IsLight (TopLevel commands) = ⊥
-  IsLight (Framed f) = ⊥
   IsLight (Releasing refs) = Unit {0}
   IsLight (Dying d) = aside d.object → IsCalm d.phase × IsLegacy d.object
-  IsLight (Collecting c) = ⊥
-  IsLight (ShuttingDown started) = ⊥
+  IsLight a = ⊥
 
   -- an object that was uncollectable since the start
   pub record Waits (tops : List Activity) (x y : Object) : Type 0 where

@@ -1,5 +1,5 @@
 -- Every generation, of an object or of a collection, is 0, 1 or 2.
-use Rattle.std.proofs.Common.{◌≡◌, refl, sym, ◌∙◌, subst, ℕ, ◌≤◌, Bool, true, false, not, inl, inr, List, [], ◌∷◌, ◌++◌, map, arith}
+use Rattle.std.proofs.Common.{◌≡◌, refl, sym, ◌∙◌, subst, ℕ, ◌≤◌, Bool, true, not, inl, inr, List, [], ◌∷◌, ◌++◌, map, arith}
 use Rattle.std.specs.Prelude.{◌==◌, if◌then◌else◌}
 use Rattle.cg_value.specs.declared.Val.TheVariants.{Ref}
 use Rattle.cg_value.specs.declared.Entry.{Entry}
@@ -14,9 +14,10 @@ use Rattle.cg_machine.specs.declared.event.Event.{Event}
 use Rattle.cg_machine.specs.declared.event.FrameSpec.{FrameSpec}
 use Rattle.cg_machine.specs.World.{World, Activity, Releasing, Dying, Collecting, Collection, Finalizer}
 use Rattle.cg_machine.specs.Frame.{start_frame}
-use Rattle.cg_laws.proofs.Advances.{Advance, Plainly, WithFrame, HasChanged, NothingChanges, ChangesEach, LosesEntries, GetsEntry, LosesObject, Followed, IsPlaceIn, IsMoved, StaysThere, IsUntracked, IsRevived, IsPlaced, asides, Continues, DeathGoesOn, DeathClears, CollectionGoesOn, Tops, TopEnds, GivesFunction, GivesReference, BeginsDeath, TopGoesOn, GivesReferences}
+use Rattle.cg_laws.proofs.Advances.{Advance, Plainly, WithFrame, HasChanged, NothingChanges, ChangesEach, LosesEntries, GetsEntry, LosesObject, Followed, IsPlaceIn, IsMoved, StaysThere, IsUntracked, IsRevived, IsPlaced, asides, Continues, CollectionGoesOn, Tops, TopEnds, GivesFunction, GivesReference, BeginsDeath, TopGoesOn, GivesReferences}
 use Rattle.cg_laws.proofs.Starting.{begun_frame, starts_either}
 use Rattle.cg_laws.proofs.Invariants.{on}
+use Rattle.cg_represents.proofs.Lists.{each_changed}
 
 abbrev pub IsYoung : Place → Type 0
 IsYoung (Gen i) = i ≤ 2
@@ -37,11 +38,7 @@ map_young f objects h young y m = let x = Includes-map_cases f objects y m in su
 
 pub test_young : (f : Object → Object) (test : Object → Bool) (objects : List Object) → ((x : Object) → Includes objects x → test x ≡ true → IsYoung x.place
     → IsYoung (f x).place) → AreYoung objects → AreYoung (map (λ x. if test x then f x else x) objects)
-test_young f test objects h young = map_young (λ x. if test x then f x else x) objects (λ x m k. one (test x) x refl m k) young
-  where
-    one : (b : Bool) (x : Object) → test x ≡ b → Includes objects x → IsYoung x.place → IsYoung (if b then f x else x).place
-    one true x t m k = h x m t k
-    one false x t m k = k
+test_young f test objects h young = each_changed (λ z. IsYoung z.place) f test objects (λ x m t. h x m t (young x m)) (λ x m t. young x m)
 
 pub entries_young : (es : List Entry) (o : ℕ) (objects : List Object) → AreYoung objects → AreYoung (change (with_entries es) o objects)
 entries_young es o objects h = test_young (with_entries es) (λ x. x.serial == o) objects (λ x m t k. k) h
@@ -79,9 +76,8 @@ module _ (top : Activity) (age : (c : Collection) → top ≡ Collecting c → c
 
 continues_young : (before after : List Object) (top a : Activity) → ((c : Collection) → top ≡ Collecting c → c.generation ≤ 2) → Continues before after top a
     → (c : Collection) → a ≡ Collecting c → c.generation ≤ 2
-continues_young before after top a age (DeathGoesOn o phase next waits none) c e = cc
-continues_young before after top a age (DeathClears o weak waiting weaks t first lost) c e = cc
 continues_young before after top a age (CollectionGoesOn b d same begun early) c e = let is : d.generation ≡ c.generation = cc in subst (λ n. n ≤ 2) (sym same ∙ is) (age b refl)
+continues_young before after top a age other c e = cc
 
 tops_young : (before after : List Object) (top : Activity) (tops below : List Activity) → Tops before after top tops → AreYoung after → Young before (top ∷ below) → Young after (tops ++ below)
 tops_young before after top tops below (TopEnds a gone) young h = record { places = young; ages = λ c m. h.ages c (inr m) }

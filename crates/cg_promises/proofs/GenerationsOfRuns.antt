@@ -3,9 +3,9 @@ use Rattle.std.proofs.Common.{◌≡◌, sym, subst, ℕ, ◌≤◌, Bool, true,
 use Rattle.std.specs.Prelude.{◌/◌, ◌==◌, ◌||◌, nat_lt, if◌then◌else◌}
 use Rattle.cg_value.specs.declared.Val.{Val}
 use Rattle.cg_value.specs.declared.Place.{Place}
-use Rattle.cg_value.specs.declared.Place.TheVariants.{Untracked, Gen, Frozen, Cand, Seen, Back, Legacy as LegacyPlace, Pend}
+use Rattle.cg_value.specs.declared.Place.TheVariants.{Gen, Frozen}
 use Rattle.cg_value.specs.declared.KindCode.{KindCode}
-use Rattle.cg_value.specs.declared.KindCode.TheVariants.{List as ListKind, Tuple, Dict, Inst, Func, Weak}
+use Rattle.cg_value.specs.declared.KindCode.TheVariants.{Dict}
 use Rattle.cg_script.specs.declared.Script.{Script}
 use Rattle.cg_script.specs.declared.Command.{Command}
 use Rattle.cg_graph.specs.Value.{put}
@@ -15,14 +15,14 @@ use Rattle.cg_machine.specs.declared.event.FrameSort.TheVariants.{Call}
 use Rattle.cg_machine.specs.World.{World, Numbers, Activity, TopLevel, Framed, Releasing, Dying, Collecting, opening, push, with_change, ShuttingDown}
 use Rattle.cg_machine.specs.Holdings.{is_collecting}
 use Rattle.cg_machine.specs.Frame.{procedure_of}
-use Rattle.cg_machine.specs.Effects.{Calls, Changes, Collects, Effect, Quits, frozen, may_track, tracked_by, unfrozen, Explains}
+use Rattle.cg_machine.specs.Effects.{Changes, Collects, Effect, frozen, may_track, tracked_by, unfrozen}
 use Rattle.cg_machine.specs.Operands.{is_dict}
 use Rattle.cg_machine.specs.Commands.{new_collection}
 use Rattle.cg_machine.specs.Due.{due, due_generation, is_due}
 use Rattle.cg_machine.specs.Run.{Run, StepTaken, last_world}
 use Rattle.cg_laws.proofs.Invariants.{CommandSteps, FromFrame, FromTop, HasCommands, Steps, Takes, any_step, emptied, on, del_shaped}
 use Rattle.cg_laws.proofs.ShapeLaws.{changes_leave}
-use Rattle.cg_represents.proofs.Shapes.{Shape, Binds, Makes, Edits, Puts, Shows, Tells, Stays, Sets, Freezes, Unfreezes, StartsFrame, StartsCollection, Ends, Inspects, AsksWhy}
+use Rattle.cg_represents.proofs.Shapes.{Shape, Makes, Edits, Puts, Freezes, Unfreezes, StartsFrame, StartsCollection, Ends, AsksWhy}
 use Rattle.cg_laws.proofs.Advancing.{frame_end_advances, released_advances, dying_advances, phase_advances}
 use Rattle.cg_promises.proofs.Generations.{AreYoung, IsYoung, IsYoungWorld, Young, entries_young, map_young, push_young, advance_young, starts_young, test_young, turn_young}
 use Rattle.cg_script.specs.declared.Command.TheVariants.{Del}
@@ -44,39 +44,21 @@ due_is_young w g e = go (is_due w.numbers && not (is_collecting w)) e
 
 unfrozen_young : (p : Place) → IsYoung p → IsYoung (unfrozen p)
 unfrozen_young Frozen k = omega arith
-unfrozen_young (Gen i) k = k
-unfrozen_young Untracked k = k
-unfrozen_young Cand k = k
-unfrozen_young Seen k = k
-unfrozen_young Back k = k
-unfrozen_young LegacyPlace k = k
-unfrozen_young Pend k = k
+unfrozen_young p k = k
 
 frozen_young : (p : Place) → IsYoung p → IsYoung (frozen p)
 frozen_young (Gen i) k = tt
-frozen_young Frozen k = k
-frozen_young Untracked k = k
-frozen_young Cand k = k
-frozen_young Seen k = k
-frozen_young Back k = k
-frozen_young LegacyPlace k = k
-frozen_young Pend k = k
+frozen_young p k = k
 
 first_young : (kind : KindCode) → IsYoung (first_place kind)
-first_young ListKind = omega arith
-first_young Tuple = omega arith
 first_young Dict = tt
-first_young Inst = omega arith
-first_young Func = omega arith
-first_young Weak = omega arith
+first_young k = omega arith
 
 module _ (w : World) (h : AreYoung w.objects) where
   abbrev Ages : Effect → Type 0
   Ages (Changes wants_memory lines given_up after) = AreYoung after.objects
-  Ages (Calls f) = Unit {0}
   Ages (Collects g) = g ≤ 2
-  Ages (Explains o) = Unit {0}
-  Ages Quits = Unit {0}
+  Ages effect = Unit {0}
 
   put_young : (x : Object) (key v : Val) → AreYoung (with_change (λ y. tracked_by w key v (with_entries (put x.entries key v) y)) x.serial w).objects
   put_young x key v = test_young (λ y. tracked_by w key v (with_entries (put x.entries key v) y)) (λ z. z.serial == x.serial) w.objects
@@ -87,22 +69,17 @@ module _ (w : World) (h : AreYoung w.objects) where
       go false y k = k
 
   shape_young : (command : Command) (e : Effect) → Shape w command e → Ages e
-  shape_young command e (Binds name v own hand) = h
   shape_young command e (Makes name kind class entries referent own parts) = λ y m. either (Includes-append_cases w.objects _ y m) (h y)
       (λ k. either k (λ i. subst (λ (z : Object). IsYoung z.place) i (first_young kind)) (λ no. absurd no))
   shape_young command e (Edits wants x entries given k mutable edit) = entries_young entries x.serial w.objects h
   shape_young command e (Puts x key v k mutable hand_key hand room) = put_young x key v
-  shape_young command e (Shows v hand) = h
-  shape_young command e (Tells line tells) = h
-  shape_young command e Stays = h
-  shape_young command e (Sets numbers own keeps) = h
   shape_young command e (Freezes is) = map_young (λ x. with_place (frozen x.place) x) w.objects (λ x m k. frozen_young x.place k) h
   shape_young command e (Unfreezes is) = map_young (λ x. with_place (unfrozen x.place) x) w.objects (λ x m k. unfrozen_young x.place k) h
   shape_young command e (StartsFrame f k) = tt
   shape_young command e (StartsCollection g low) = low
   shape_young command e Ends = tt
-  shape_young command e (Inspects lines calm there) = h
   shape_young command e (AsksWhy x k calm) = tt
+  shape_young command e shape = h
 
 module _ (script : Script) (below : List Activity) (v : World) where
   abbrev YoungOn : Activity → Type 0

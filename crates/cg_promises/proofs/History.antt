@@ -12,7 +12,7 @@ use Rattle.cg_machine.specs.Holdings.{is_collection}
 use Rattle.cg_machine.specs.Due.{due}
 use Rattle.cg_machine.specs.Frame.{frame_end, gives_up_function}
 use Rattle.cg_machine.specs.declared.event.FrameSort.{FrameSort}
-use Rattle.cg_machine.specs.declared.event.FrameSort.TheVariants.{Del, Legacy, Callback, Call}
+use Rattle.cg_machine.specs.declared.event.FrameSort.TheVariants.{Del}
 use Rattle.cg_machine.specs.Collect.{PhaseStep}
 use Rattle.cg_represents.specs.Orderly.{death_waits, all_waits}
 use Rattle.cg_machine.specs.Run.{CommandInFrame, FrameStep, Run, Step, StepOf, StepTaken, TopLevelStep, last_world}
@@ -42,9 +42,7 @@ ended_objects f w = go f.sort
   where
     go : (sort : FrameSort) → (gives_up_function sort f.function w).objects ≡ w.objects
     go Del = refl
-    go Legacy = refl
-    go Callback = refl
-    go Call = refl
+    go sort = refl
 
 -- the steps at the end of a script change no object
 after_objects : (b : Bool) (below : List Activity) (w : World) → (after_commands b below w).1.objects ≡ w.objects
@@ -53,8 +51,7 @@ after_objects false below w = refl
 
 shut_objects : (started : Bool) (name : Option ℕ) (below : List Activity) (w : World) → (shut_down started name below w).1.objects ≡ w.objects
 shut_objects false (Some name) below w = refl
-shut_objects false None below w = refl
-shut_objects true name below w = refl
+shut_objects b name below w = refl
 
 module _ (script : Script) (budget : ℕ) where
   abbrev world : List StepTaken → World
@@ -116,9 +113,10 @@ module _ (script : Script) (budget : ℕ) where
         (h c (subst (λ st. Includes st (Collecting c)) (sym top) (inr k))))
         (λ k. subst (λ p. FinalAt (WasFinal script budget longer) c p step.world.objects) (sym k.1) tt)
 
-    collect_final : (c : Collection) (below : List Activity) → (world done).stack ≡ Collecting c ∷ below → AreFinal (WasFinal script budget longer)
-        (world done).objects (world done).stack → AreFinal (WasFinal script budget longer) step.world.objects step.world.stack
-    collect_final c below top h =
+    step_final : (stack : List Activity) → (world done).stack ≡ stack → AreFinal (WasFinal script budget longer) (world done).objects (world done).stack
+        → AreFinal (WasFinal script budget longer) step.world.objects step.world.stack
+    step_final [] top h = absurd (subst (λ st. StepOf script (world done) st step.events step.world) top goes.step)
+    step_final (Collecting c ∷ below) top h =
         let w = world done in
         let alone = alone_below c below (subst (λ st. tally collections_in st ≤ 1) top fit.sound.single) in
         let taken : PhaseStep script c c.phase below (with_stack (Collecting c ∷ below) w) step.events step.world =
@@ -127,16 +125,7 @@ module _ (script : Script) (budget : ℕ) where
         (λ o clears phase k. record { before = done; split = step; after = []; is = refl; splits = record { collection = c; below = below; top = top; phase = phase; clears = clears }; member = k })
         (λ d m early other. early_after script w c below alone step.events step.world (phase_advances script c below w c.phase step.events step.world taken) early other d m)
         (h c (subst (λ st. Includes st (Collecting c)) (sym top) (inl refl)))
-
-    step_final : (stack : List Activity) → (world done).stack ≡ stack → AreFinal (WasFinal script budget longer) (world done).objects (world done).stack
-        → AreFinal (WasFinal script budget longer) step.world.objects step.world.stack
-    step_final [] top h = absurd (subst (λ st. StepOf script (world done) st step.events step.world) top goes.step)
-    step_final (TopLevel commands ∷ below) top h = other_final (TopLevel commands) below top refl h
-    step_final (Framed f ∷ below) top h = other_final (Framed f) below top refl h
-    step_final (ShuttingDown started ∷ below) top h = other_final (ShuttingDown started) below top refl h
-    step_final (Releasing refs ∷ below) top h = other_final (Releasing refs) below top refl h
-    step_final (Dying d ∷ below) top h = other_final (Dying d) below top refl h
-    step_final (Collecting c ∷ below) top h = collect_final c below top h
+    step_final (a ∷ below) top h = other_final a below top refl h
 
     step_past : Past done (world done) → Past longer step.world
     step_past h = record {
@@ -163,7 +152,6 @@ module _ (script : Script) (budget : ℕ) where
 
   -- a weak reference that is called back waits
   calls_waits : (phase : DyingPhase) (n : ℕ) → CallsBack phase n → Includes (death_waits phase) n
-  calls_waits (Calling []) n h = absurd h
   calls_waits (Calling (weak ∷ waiting)) n h = inl h
   calls_waits phase n h = absurd h
 

@@ -10,14 +10,14 @@ use Rattle.cg_graph.specs.Member.{Includes}
 use Rattle.cg_graph.specs.Value.{references}
 use Rattle.cg_graph.specs.Object.{Object, change, serials, with_place, with_referent}
 use Rattle.cg_graph.specs.Holdings.{entry_holdings, graph_of, name_holdings}
-use Rattle.cg_graph.proofs.Members.{either, Includes-append_left, Includes-append_right, Includes-append_cases, Includes-map, Includes-map_cases}
+use Rattle.cg_graph.proofs.Members.{either, Includes-append_left, Includes-append_right, Includes-append_cases, Includes-map}
 use Rattle.cg_machine.specs.declared.event.FrameSpec.{FrameSpec}
 use Rattle.cg_machine.specs.Frame.{start_frame}
 use Rattle.cg_machine.specs.World.{World, Activity, Releasing}
 use Rattle.cg_machine.specs.Holdings.{holdings, holds, in_degree, is_death_of}
 use Rattle.cg_laws.proofs.Starting.{begun_frame, starts_either}
 use Rattle.cg_laws.proofs.Releasing.{entry_holder, none_holds}
-use Rattle.cg_represents.proofs.Lists.{no_times}
+use Rattle.cg_represents.proofs.Lists.{no_times, each_changed}
 use Rattle.cg_script.specs.declared.Script.{Script}
 use Rattle.cg_machine.specs.Weak.{loses_referent}
 use Rattle.cg_represents.proofs.Moves.{AtMostOne}
@@ -71,16 +71,12 @@ pub test_keeps : (f : Object → Object) (test : Object → Bool) (objects : Lis
 test_keeps f test objects moved marks entries single = record {
   old = if_old f marks test objects;
   entries = λ x m n k. either (held (test x) x refl m n k) (λ e. inl (if test x then f x else x, Includes-map (λ x. if test x then f x else x) objects x m, e)) (λ e. inr e);
-  single = λ s y m. let x = Includes-map_cases (λ x. if test x then f x else x) objects y m in subst IsSingle x.2 (one (test x.0) x.0 refl x.1 (s x.0 x.1));
+  single = λ s. each_changed IsSingle f test objects (λ x m t. single x m t (s x m)) (λ x m t. s x m);
 }
   where
     held : (b : Bool) (x : Object) → test x ≡ b → Includes objects x → (n : ℕ) → Includes (references x.entries) n → Includes (references (if b then f x else x).entries) n ⊎ Includes moved n
     held true x t m n k = entries x m t n k
     held false x t m n k = inl k
-
-    one : (b : Bool) (x : Object) → test x ≡ b → Includes objects x → IsSingle x → IsSingle (if b then f x else x)
-    one true x t m s = single x m t s
-    one false x t m s = s
 
 -- a change that keeps entries and kind
 pub record IsPlainly (f : Object → Object) : Type 0 where

@@ -1,5 +1,5 @@
 -- The steps of a collection: unheld objects are dying.
-use Rattle.std.proofs.Common.{◌≡◌, ◌≢◌, refl, sym, ◌∙◌, ap, subst, ℕ, ◌<◌, ◌⊎◌, false, true, inl, inr, List, [], ◌∷◌, ◌++◌, Option, Some, None}
+use Rattle.std.proofs.Common.{◌≡◌, ◌≢◌, refl, sym, ◌∙◌, subst, ℕ, ◌<◌, ◌⊎◌, false, inl, inr, List, [], ◌∷◌, ◌++◌, Option, Some, None}
 use Rattle.std.specs.Prelude.{◌==◌}
 use Rattle.std.proofs.lemmas.Bool.{eqb-true}
 use Rattle.cg_value.specs.declared.Entry.{Entry}
@@ -13,10 +13,10 @@ use Rattle.cg_graph.proofs.Members.{either, Includes-map, Includes-map_cases}
 use Rattle.cg_machine.specs.declared.event.Event.{Event}
 use Rattle.cg_machine.specs.World.{World, Activity, Releasing, Collecting, Collection, CollectPhase, Turn, AfterTurn}
 use Rattle.cg_machine.specs.Holdings.{collect_holds, is_death_of}
-use Rattle.cg_machine.specs.Collect.{collection_at, empties, saved, PhaseStep}
+use Rattle.cg_machine.specs.Collect.{collection_at, empties, PhaseStep}
 use Rattle.cg_represents.proofs.Serials.{Rises}
 use Rattle.cg_represents.proofs.Moves.{AtMostOne, appended_goes}
-use Rattle.cg_laws.proofs.Advances.{Advance, Plainly, WithFrame, HasChanged, NothingChanges, ChangesEach, LosesEntries, GetsEntry, LosesObject, Followed, KeepsEntries, Owns, OfEmptied, OfCalled, OfTurn, asides, asides_last, changed_origin, Continues, DeathGoesOn, DeathClears, CollectionGoesOn, HoldsNone, HoldsOn, Tops, TopEnds, GivesFunction, GivesReference, BeginsDeath, TopGoesOn, GivesReferences}
+use Rattle.cg_laws.proofs.Advances.{Advance, Plainly, WithFrame, HasChanged, NothingChanges, ChangesEach, LosesEntries, GetsEntry, LosesObject, Followed, KeepsEntries, Owns, OfTurn, asides, asides_last, changed_origin, Continues, CollectionGoesOn, HoldsNone, HoldsOn, Tops, TopEnds, TopGoesOn, GivesReferences}
 use Rattle.cg_laws.proofs.Advancing.{phase_advances}
 use Rattle.cg_laws.proofs.Invariants.{on}
 use Rattle.cg_promises.proofs.FinalizerOnce.{Marks}
@@ -26,12 +26,6 @@ use Rattle.cg_promises.proofs.LastEntryMoves.{shortened_keeps}
 -- the garbage list gets entries, and is a list
 abbrev IsList : List Object → Type 0
 IsList objects = (x : Object) → Includes objects x → x.serial ≡ 1 → x.code ≡ ListKind
-
-saved_keeps : (o : ℕ) (objects : List Object) → IsList objects → Keeps objects (saved o objects) []
-saved_keeps o objects list = test_keeps (λ x. with_entries (x.entries ++ item (Ref o) ∷ []) x) (λ x. x.serial == 1) objects []
-    (λ x. record { serial = refl; code = refl; class = refl; finalized = λ e. e })
-    (λ x m t n k. appended_goes x.entries (item (Ref o)) n k)
-    (λ x m t s. (λ c. absurd (let no : ListKind ≡ Weak = sym (list x m (eqb-true x.serial 1 t)) ∙ c in cc), λ c. absurd (let no : ListKind ≡ Tuple = sym (list x m (eqb-true x.serial 1 t)) ∙ c in cc)))
 
 marks : (top : Activity) (tops : List Activity) (lines : List Event) (x y : Object) → KeepsEntries top tops lines x y → Marks x y
 marks top tops lines x y k = record { serial = k.later.serial; code = k.later.code; class = k.later.class; finalized = k.finalized }
@@ -55,7 +49,10 @@ changed_keeps top tops lines none before after (ChangesEach f test objects aside
   );
 }
 changed_keeps top tops lines none before after (LosesEntries es s objects owns fewer) list = absurd (none s owns)
-changed_keeps top tops lines none before after (GetsEntry o objects is) list = saved_keeps o objects list
+changed_keeps top tops lines none before after (GetsEntry o objects is) list = test_keeps (λ x. with_entries (x.entries ++ item (Ref o) ∷ []) x) (λ x. x.serial == 1) objects []
+    (λ x. record { serial = refl; code = refl; class = refl; finalized = λ e. e })
+    (λ x m t n k. appended_goes x.entries (item (Ref o)) n k)
+    (λ x m t s. (λ c. absurd (let no : ListKind ≡ Weak = sym (list x m (eqb-true x.serial 1 t)) ∙ c in cc), λ c. absurd (let no : ListKind ≡ Tuple = sym (list x m (eqb-true x.serial 1 t)) ∙ c in cc)))
 changed_keeps top tops lines none before after (LosesObject o objects owns line) list = absurd (none o owns)
 changed_keeps top tops lines none before after (Followed first now last h k) list =
     keeps_trans first now last (changed_keeps top tops lines none first now h list) (changed_keeps top tops lines none now last k
@@ -63,14 +60,12 @@ changed_keeps top tops lines none before after (Followed first now last h k) lis
 
 -- a collection takes entries only in turns
 owns_none : (c : Collection) → ((o : ℕ) → c.phase ≢ Turn o) → (top : Activity) → top ≡ Collecting c → (s : ℕ) → ¬ Owns top s
-owns_none c other top is s (OfEmptied o) = cc
-owns_none c other top is s (OfCalled o weak waiting) = cc
 owns_none c other top is s (OfTurn b o turn) = let same : b ≡ c = cc in other o (subst (λ (z : Collection). z.phase ≡ Turn o) same turn)
+owns_none c other top is s one = cc
 
 no_death : (before after : List Object) (c : Collection) (top a : Activity) → Continues before after top a → top ≡ Collecting c → (n : ℕ) → false ≡ is_death_of n a
-no_death before after c top a (DeathGoesOn o phase next fewer none) is n = absurd (cc)
-no_death before after c top a (DeathClears o weak waiting weaks t first lost) is n = absurd (cc)
 no_death before after c top a (CollectionGoesOn b d same begun early) is n = refl
+no_death before after c top a other is n = absurd (cc)
 
 module _ (script : Script) (k : ℕ) (c : Collection) (below : List Activity) (v : World) (rises : Rises 1 v.next_serial v.objects) (list : IsList v.objects) where
   abbrev at : CollectPhase → World
@@ -95,9 +90,6 @@ module _ (script : Script) (k : ℕ) (c : Collection) (below : List Activity) (v
   tops_minded : (objects : List Object) (d : Collection) (top : Activity) (tops : List Activity) → Tops v.objects objects top tops → top ≡ Collecting d
       → Keeps v.objects objects [] → IsMinded k (on (Collecting d) below v) → Minded k objects v.names (tops ++ below)
   tops_minded objects d top tops (TopEnds a gone) is keeps h = end_minded k (Collecting d) below v.objects objects v.names keeps (subst HoldsNone is gone) (λ n. refl) h
-  tops_minded objects d top tops (GivesFunction f references few) is keeps h = absurd (cc)
-  tops_minded objects d top tops (GivesReference o references) is keeps h = absurd (cc)
-  tops_minded objects d top tops (BeginsDeath o references) is keeps h = absurd (cc)
   tops_minded objects d top tops (TopGoesOn t a g held) is keeps h =
       turn_minded k (Collecting d) a below v.objects objects v.names [] keeps (
         λ n m. either (subst (λ z. HoldsOn [] z a) is held n m) (λ none. absurd none)
@@ -108,6 +100,7 @@ module _ (script : Script) (k : ℕ) (c : Collection) (below : List Activity) (v
   tops_minded objects d top tops (GivesReferences t a references few g held) is keeps h =
       give_minded k references (Collecting d) a below v.objects objects v.names [] keeps (λ n m. subst (λ z. HoldsOn references z a) is held n m)
       (λ n m. absurd m) (no_death v.objects objects d t a g is) h
+  tops_minded objects d top tops other is keeps h = absurd (cc)
 
   advance_minded : (d : Collection) → ((o : ℕ) → d.phase ≢ Turn o) → (lines : List Event) (after : World) → Advance script v (Collecting d) below lines after
       → IsMinded k (on (Collecting d) below v) → IsMinded k after

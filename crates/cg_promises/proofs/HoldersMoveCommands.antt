@@ -18,11 +18,11 @@ use Rattle.cg_graph.specs.Holdings.{name_holdings}
 use Rattle.cg_graph.proofs.Members.{either, Includes-append_left, Includes-append_right, Includes-append_cases, Includes-map, Includes-map_cases}
 use Rattle.cg_machine.specs.World.{World, Numbers, with_change}
 use Rattle.cg_machine.specs.Operands.{is_dict}
-use Rattle.cg_machine.specs.Effects.{Calls, Changes, Collects, Effect, Quits, bound, frozen, given_up_by, may_track, replaced, tracked_by, unfrozen, with_new, Explains}
+use Rattle.cg_machine.specs.Effects.{Changes, Effect, bound, frozen, given_up_by, may_track, replaced, tracked_by, unfrozen, with_new}
 use Rattle.cg_laws.proofs.Lookups.{same_object}
 use Rattle.cg_represents.proofs.Serials.{Rises}
 use Rattle.cg_represents.proofs.Moves.{AtMostOne, StaysOrMoves, put_goes}
-use Rattle.cg_represents.proofs.Shapes.{IsAtHand, IsMutable, Shape, Binds, Makes, Edits, Puts, Shows, Tells, Stays, Sets, Freezes, Unfreezes, StartsFrame, StartsCollection, Ends, Inspects, AsksWhy}
+use Rattle.cg_represents.proofs.Shapes.{IsAtHand, IsMutable, Shape, Binds, Makes, Edits, Puts, Freezes, Unfreezes, StartsFrame, StartsCollection, Ends, AsksWhy}
 use Rattle.cg_promises.proofs.FinalizerOnce.{Marks, map_old, old_lives}
 use Rattle.cg_promises.proofs.HoldersMove.{AreSingle, IsSingle, Keeps, keeps_same, test_keeps}
 
@@ -36,9 +36,8 @@ bound_keeps (p ∷ names) (suc x) v n m = either (Includes-append_cases (referen
     (λ k. either (bound_keeps names x v n k) (λ i. inl (Includes-append_right (references_of_value p) (name_holdings (slice_set names x v)) n i)) (λ i. inr i))
 
 bound_count : (names : List (Option Val)) (x : ℕ) (v : Option Val) → length (slice_set names x v) ≡ length names
-bound_count [] x v = refl
-bound_count (p ∷ names) zero v = refl
 bound_count (p ∷ names) (suc x) v = ap suc (bound_count names x v)
+bound_count xs x v = refl
 
 bound_holds : (names : List (Option Val)) (x n : ℕ) → x < length names → Includes (name_holdings (slice_set names x (Some (Ref n)))) n
 bound_holds [] x n h = absurd (omega (arith, h))
@@ -55,10 +54,7 @@ pub record Shifts (w : World) (given : List ℕ) (after : World) : Type 0 where
 
 abbrev pub Shifting : World → Effect → Type 0
 Shifting w (Changes wants_memory lines given_up after) = Shifts w given_up after
-Shifting w (Calls f) = Unit {0}
-Shifting w (Collects g) = Unit {0}
-Shifting w (Explains o) = Unit {0}
-Shifting w Quits = Unit {0}
+Shifting w effect = Unit {0}
 
 -- a changed object is no weak reference and no tuple
 abbrev pub IsApart : KindCode → Type 0
@@ -79,9 +75,6 @@ module _ (w : World) (rises : Rises 1 w.next_serial w.objects) where
     single = keeps.single;
     count = ap length e;
   }
-
-  unchanged : (numbers : Numbers) → Shifts w [] (record w { numbers = numbers })
-  unchanged numbers = shifted (record w { numbers = numbers }) [] (keeps_same w.objects) refl
 
   pub binds_shift : (name : ℕ) (v : Option Val) → Shifts w (given_up_by w name) (bound w name v)
   binds_shift name v = record {
@@ -164,20 +157,19 @@ module _ (w : World) (rises : Rises 1 w.next_serial w.objects) where
       (made e.val i.1 n) (λ q. absurd (subst (λ u. Includes (option_to_list (reference_in u)) n) i.0 q)))
       (items_made command made entries (λ d q. items d (inr q)) n)
 
+  unchanged : (numbers : Numbers) → Shifts w [] (record w { numbers = numbers })
+  unchanged numbers = shifted (record w { numbers = numbers }) [] (keeps_same w.objects) refl
+
   pub shape_shifts : (command : Command) → IsHandMade command → ((t : ℕ) → Includes (command_texts command) t → t < length w.names) → (e : Effect) → Shape w command e → Shifting w e
   shape_shifts command made fits e (Binds name v own hand) = binds_shift name v
   shape_shifts command made fits e (Makes name kind class entries referent own parts) = made_shifts name kind class entries referent
       (fits name (own operand_texts name (inl refl))) (λ e. (parts.callbacks e).0, λ e. items_made command made entries parts.items)
   shape_shifts command made fits e (Edits wants x entries given h mutable edit) = sets_shift x entries given h.member (mutable_apart x.code mutable) edit.keeps
   shape_shifts command made fits e (Puts x key v h mutable hand_key hand room) = put_shifts x key v h.member (mutable_apart x.code mutable)
-  shape_shifts command made fits e (Shows v hand) = unchanged _
-  shape_shifts command made fits e (Tells line tells) = unchanged _
-  shape_shifts command made fits e Stays = unchanged _
-  shape_shifts command made fits e (Sets numbers own keeps) = unchanged _
   shape_shifts command made fits e (Freezes is) = places_shift frozen _
   shape_shifts command made fits e (Unfreezes is) = places_shift unfrozen _
   shape_shifts command made fits e (StartsFrame f h) = tt
   shape_shifts command made fits e (StartsCollection g low) = tt
   shape_shifts command made fits e Ends = tt
-  shape_shifts command made fits e (Inspects lines calm there) = unchanged _
   shape_shifts command made fits e (AsksWhy x h calm) = tt
+  shape_shifts command made fits e shape = unchanged _

@@ -3,7 +3,6 @@ use Rattle.std.proofs.Common.{◌≡◌, ◌≢◌, refl, sym, ◌∙◌, ap, su
 use Rattle.std.specs.Prelude.{◌==◌, ◌||◌, if◌then◌else◌, flat_map, is_some, option_and_then, option_to_list, unwrap_or}
 use Rattle.std.specs.List.{list_any}
 use Rattle.std.proofs.lemmas.Bool.{eqb-true, eq-eqb}
-use Rattle.cg_value.specs.declared.Entry.{Entry}
 use Rattle.cg_value.specs.declared.KindCode.TheVariants.{Weak}
 use Rattle.cg_value.specs.declared.Place.TheVariants.{Untracked, Gen}
 use Rattle.cg_script.specs.declared.Script.{Script}
@@ -12,24 +11,20 @@ use Rattle.cg_graph.specs.Member.{Includes}
 use Rattle.cg_graph.specs.Value.{entry_references, last_entry, references, without_last}
 use Rattle.cg_graph.specs.Object.{Object, change, object_at, entries_of, marked, serials, with_entries, with_place, with_referent, without}
 use Rattle.cg_graph.proofs.Members.{either, or_left, or_right, Includes-append_left, Includes-append_right, Includes-append_cases, Includes-filter, Includes-filter_cases}
-use Rattle.cg_machine.specs.declared.event.Event.TheVariants.{Alive}
 use Rattle.cg_machine.specs.declared.event.FrameSort.{FrameSort}
 use Rattle.cg_machine.specs.declared.event.FrameSort.TheVariants.{Del, Legacy, Callback, Call}
 use Rattle.cg_machine.specs.Program.{legacy_of}
 use Rattle.cg_machine.specs.World.{World, Activity, Framed, Releasing, Dying, Frame, DyingPhase, Finalizer, AfterFinalizer, Clearing, Calling, AfterCall, LegacyFinalizer, AfterLegacy, Detaching, Emptying, with_stack, with_change}
 use Rattle.cg_machine.specs.Holdings.{dying_holds, holds, in_degree, is_death_of, is_dying}
-use Rattle.cg_machine.specs.Frame.{Transition, frame_end, gives_up_function, begin_death, released, procedure_of}
+use Rattle.cg_machine.specs.Frame.{frame_end, gives_up_function, released, procedure_of}
 use Rattle.cg_machine.specs.Weak.{has_weak_references, weak_references_if, loses_referent, callback_of}
 use Rattle.cg_machine.specs.Dying.{death_at, has_finalizers, finalizer_to_run, run_finalizer, run_legacy, after_frame, clear_one, call_one, detach_one, empty_one, dying}
 use Rattle.cg_represents.proofs.Serials.{Rises}
 use Rattle.cg_laws.proofs.LinesNameLive.{without_gone}
+use Rattle.cg_laws.proofs.Starting.{own_frame_either, release_either, option_either, list_either}
 use Rattle.cg_promises.proofs.FinalizerOnce.{old_lives, origin_lives, without_old}
 use Rattle.cg_promises.proofs.HoldersMove.{IsFree, IsMinded, Keeps, Minded, Minds, change_keeps, end_minded, free_degree, give_minded, keeps_same, lost_keeps, placed, starts_minded, stack_minded, turn_minded}
 use Rattle.cg_promises.proofs.LastEntryMoves.{called_keeps, entries_of_member, last_none, shortened_keeps}
-
-not_false : (b : Bool) → not b ≡ false → b ≡ true
-not_false true e = refl
-not_false false e = sym e
 
 other : (o n : ℕ) → (o == n) ≡ false → o ≢ n
 other o n t e = let no : true ≡ false = sym (eq-eqb o n e) ∙ t in cc
@@ -39,16 +34,16 @@ frame_end_minded k f below v h = by_sort f.sort f.function h
   where
     by_sort : (sort : FrameSort) (function : Option ℕ) → Minded k v.objects v.names (Framed (record f { sort = sort; function = function }) ∷ below)
         → IsMinded k (gives_up_function sort function (with_stack below v))
-    by_sort Del function h = end_minded k (Framed (record f { sort = Del; function = function })) below v.objects v.objects v.names (keeps_same v.objects) refl (λ n. refl) h
-    by_sort Legacy function h = end_minded k (Framed (record f { sort = Legacy; function = function })) below v.objects v.objects v.names (keeps_same v.objects) refl (λ n. refl) h
-    by_sort Callback function h = end_minded k (Framed (record f { sort = Callback; function = function })) below v.objects v.objects v.names (keeps_same v.objects) refl (λ n. refl) h
     by_sort Call function h = stack_minded k v.objects v.objects v.names (Framed (record f { sort = Call; function = function }) ∷ below)
         (Releasing (option_to_list function) ∷ below) [] (keeps_same v.objects) (λ n m. m) (λ n m. absurd m) (λ n e. e) h
+    by_sort frame_sort function h = end_minded k (Framed (record f { sort = frame_sort; function = function })) below v.objects v.objects v.names (keeps_same v.objects) refl (λ n. refl) h
 
 pub released_minded : (k : ℕ) (references : List ℕ) (below : List Activity) (v : World) → IsMinded k (with_stack (Releasing references ∷ below) v)
     → IsMinded k (released references below (with_stack (Releasing references ∷ below) v)).1
 released_minded k [] below v h = end_minded k (Releasing []) below v.objects v.objects v.names (keeps_same v.objects) refl (λ n. refl) h
-released_minded k (o ∷ refs) below v h = go (not (is_dying now o) && (in_degree now o == 0)) refl
+released_minded k (o ∷ refs) below v h = release_either (λ lines. IsMinded k) o refs below v
+    (λ e. record { minds = dies; single = keeps.single h.single; count = h.count })
+    (λ e. record { minds = stays e; single = h.single; count = h.count })
   where
     now : World
     now = with_stack (Releasing refs ∷ below) v
@@ -89,10 +84,6 @@ released_minded k (o ∷ refs) below v h = go (not (is_dying now o) && (in_degre
             (sym same) free))) kept refl)
         go_on false t = h.minds n m (record { names_none = free.names_none; root_not = free.root_not; entries_none = free.entries_none; stack_none = stack_before n t free.stack_none })
 
-    go : (b : Bool) → (not (is_dying now o) && (in_degree now o == 0)) ≡ b → (let t : Transition = if b then ([], begin_death o now) else ([], now) in IsMinded k t.1)
-    go true e = record { minds = dies; single = keeps.single h.single; count = h.count }
-    go false e = record { minds = stays e; single = h.single; count = h.count }
-
 module _ (script : Script) (k : ℕ) (o : ℕ) (below : List Activity) (v : World) (rises : Rises 1 v.next_serial v.objects) where
   abbrev at : DyingPhase → World
   at phase = death_at o phase below v
@@ -106,20 +97,6 @@ module _ (script : Script) (k : ℕ) (o : ℕ) (below : List Activity) (v : Worl
   goes_to : (phase next : DyingPhase) (objects : List Object) → Keeps v.objects objects [] → ((n : ℕ) → Includes (dying_holds o phase) n
       → Includes (dying_holds o next) n) → IsMinded k (at phase) → Minded k objects v.names (dying_now next ∷ below)
   goes_to phase next objects keeps held h = turn_minded k (dying_now phase) (dying_now next) below v.objects objects v.names [] keeps (held, λ n m. absurd m, λ n. refl) h
-
-  finalizer_minded : (m : Option ℕ) → IsMinded k (at Finalizer) → IsMinded k (run_finalizer script o below (at Finalizer) m).1
-  finalizer_minded None h = goes_to Finalizer (Clearing []) v.objects same (λ n m. m) h
-  finalizer_minded (Some p) h = starts_minded k script (record { sort = Del; proc = p; subject = o; func = None })
-      (death_at o AfterFinalizer below (with_change (λ x. marked (with_place (Gen 0) x)) o (at Finalizer)))
-      (goes_to Finalizer AfterFinalizer (change (λ x. marked (with_place (Gen 0) x)) o v.objects) (change_keeps (λ x. marked (with_place (Gen 0) x)) o v.objects
-      (record { marks = λ x. record { serial = refl; code = refl; class = refl; finalized = λ e. refl }; entries = λ x. refl; code = λ x. refl })) (λ n m.
-      absurd m) h)
-
-  legacy_minded : (m : Option ℕ) → IsMinded k (at LegacyFinalizer) → IsMinded k (run_legacy script o below (at LegacyFinalizer) m).1
-  legacy_minded None h = goes_to LegacyFinalizer Detaching v.objects same (λ n m. m) h
-  legacy_minded (Some p) h = starts_minded k script (record { sort = Legacy; proc = p; subject = o; func = None })
-      (death_at o AfterLegacy below (with_change (with_place (Gen 0)) o (at LegacyFinalizer)))
-      (goes_to LegacyFinalizer AfterLegacy (change (with_place (Gen 0)) o v.objects) (change_keeps (with_place (Gen 0)) o v.objects (placed (Gen 0))) (λ n m. absurd m) h)
 
   -- a death gives up its own hold
   module _ (phase next : DyingPhase) (held : (n : ℕ) → Includes (dying_holds o phase) n → o ≡ n) (none : dying_holds o next ≡ []) (h : IsMinded k (at phase)) where
@@ -162,18 +139,9 @@ module _ (script : Script) (k : ℕ) (o : ℕ) (below : List Activity) (v : Worl
             }))
 
     after_frame_minded : IsMinded k (after_frame o next below (at phase)).1
-    after_frame_minded = go (in_degree (at next) o == 0) refl
-      where
-        go : (b : Bool) → (in_degree (at next) o == 0) ≡ b → (let t : Transition = if b then ([], with_change (with_place Untracked) o (at next))
-            else (Alive o ∷ [], with_stack below (at phase)) in IsMinded k t.1)
-        go true e = record { minds = goes_on; single = untracked.single h.single; count = h.count }
-        go false e = record { minds = lives_on e; single = h.single; count = h.count }
-
-  clearing_minded : (waiting weaks : List ℕ) → IsMinded k (at (Clearing waiting)) → IsMinded k (clear_one o waiting below (at (Clearing waiting)) weaks).1
-  clearing_minded waiting [] h = goes_to (Clearing waiting) (Calling waiting) v.objects same (λ n m. m) h
-  clearing_minded waiting (weak ∷ weaks) h =
-      let more = if is_some (callback_of v.objects weak) then weak ∷ [] else [] in
-      goes_to (Clearing waiting) (Clearing (waiting ++ more)) (loses_referent weak v.objects) (lost_keeps weak v.objects) (λ n m. Includes-append_left waiting more n m) h
+    after_frame_minded = own_frame_either (λ lines. IsMinded k) o next below (at phase)
+        (λ e. record { minds = goes_on; single = untracked.single h.single; count = h.count })
+        (λ e. record { minds = lives_on e; single = h.single; count = h.count })
 
   calling_minded : (waiting : List ℕ) → ((weak : ℕ) → Includes waiting weak → (x : Object) → Includes v.objects x → x.serial ≡ weak → x.code ≡ Weak)
       → IsMinded k (at (Calling waiting)) → IsMinded k (call_one script o below (at (Calling waiting)) waiting).1
@@ -184,10 +152,6 @@ module _ (script : Script) (k : ℕ) (o : ℕ) (below : List Activity) (v : Worl
       (death_at o (AfterCall weak callback waiting) below (with_change (with_entries []) weak (at (Calling (weak ∷ waiting)))))
       (turn_minded k (dying_now (Calling (weak ∷ waiting))) (dying_now (AfterCall weak callback waiting)) below v.objects (change (with_entries []) weak v.objects) v.names (callback ∷ [])
       (called_keeps 1 v.next_serial v.objects weak rises h.single (code weak (inl refl))) (λ n m. inr m, λ n m. either m (λ e. inl e) (λ no. absurd no), λ n. refl) h)
-
-  detaching_minded : (weaks : List ℕ) → IsMinded k (at Detaching) → IsMinded k (detach_one o below (at Detaching) weaks).1
-  detaching_minded [] h = goes_to Detaching Emptying v.objects same (λ n m. m) h
-  detaching_minded (weak ∷ weaks) h = goes_to Detaching Detaching (loses_referent weak v.objects) (lost_keeps weak v.objects) (λ n m. m) h
 
   gone_minds : last_entry (entries_of v.objects o) ≡ None → IsMinded k (at Emptying) → (n : ℕ) → Minds (without o v.objects) v.names below n
   gone_minds empty h n m free = by_death (o == n) refl
@@ -202,12 +166,6 @@ module _ (script : Script) (k : ℕ) (o : ℕ) (below : List Activity) (v : Worl
       by_death false t = subst (λ b. (b || list_any (is_death_of n) below) ≡ true) t (h.minds n (origin_lives v.objects (without o v.objects) (without_old o v.objects) n m)
           (record { names_none = free.names_none; root_not = free.root_not; entries_none = λ x i. held (x.serial == o) x refl i; stack_none = free.stack_none }))
 
-  emptying_minded : (m : Option Entry) → last_entry (entries_of v.objects o) ≡ m → IsMinded k (at Emptying) → IsMinded k (empty_one o below (at Emptying) m).1
-  emptying_minded None e h = record { minds = gone_minds e h; single = λ x m. h.single x (Includes-filter_cases (λ (z : Object). not (z.serial == o)) v.objects x m).0; count = h.count }
-  emptying_minded (Some entry) e h = give_minded k (entry_references entry) (dying_now Emptying) (dying_now Emptying) below v.objects
-      (change (with_entries (without_last (entries_of v.objects o))) o v.objects) v.names (entry_references entry)
-      (shortened_keeps 1 v.next_serial v.objects o entry rises e) (λ n m. absurd m) (λ n m. inl m) (λ n. refl) h
-
   called : (callback weak : ℕ) (waiting : List ℕ) (n : ℕ) → Includes (callback ∷ weak ∷ waiting) n → Includes (callback ∷ weak ∷ []) n ⊎ Includes waiting n
   called callback weak waiting n (inl e) = inl (inl e)
   called callback weak waiting n (inr (inl e)) = inl (inr (inl e))
@@ -218,13 +176,32 @@ module _ (script : Script) (k : ℕ) (o : ℕ) (below : List Activity) (v : Worl
 
   pub dying_minded : (phase : DyingPhase) → ((waiting : List ℕ) → phase ≡ Calling waiting → (weak : ℕ) → Includes waiting weak → (x : Object)
       → Includes v.objects x → x.serial ≡ weak → x.code ≡ Weak) → IsMinded k (at phase) → IsMinded k (dying script o phase below (at phase)).1
-  dying_minded Finalizer code h = finalizer_minded (option_and_then (finalizer_to_run script) (object_at v.objects o)) h
+  dying_minded Finalizer code h = option_either (λ lines. IsMinded k) (run_finalizer script o below (at Finalizer)) (option_and_then (finalizer_to_run script) (object_at v.objects o))
+      (λ is. goes_to Finalizer (Clearing []) v.objects same (λ n m. m) h)
+      (λ p is. starts_minded k script (record { sort = Del; proc = p; subject = o; func = None })
+      (death_at o AfterFinalizer below (with_change (λ x. marked (with_place (Gen 0) x)) o (at Finalizer)))
+      (goes_to Finalizer AfterFinalizer (change (λ x. marked (with_place (Gen 0) x)) o v.objects) (change_keeps (λ x. marked (with_place (Gen 0) x)) o v.objects
+      (record { marks = λ x. record { serial = refl; code = refl; class = refl; finalized = λ e. refl }; entries = λ x. refl; code = λ x. refl })) (λ n m.
+      absurd m) h))
   dying_minded AfterFinalizer code h = after_frame_minded AfterFinalizer (Clearing []) only refl h
-  dying_minded (Clearing waiting) code h = clearing_minded waiting (weak_references_if has_weak_references v.objects o) h
+  dying_minded (Clearing waiting) code h = list_either (λ lines. IsMinded k) (clear_one o waiting below (at (Clearing waiting))) (weak_references_if has_weak_references v.objects o)
+      (λ e. goes_to (Clearing waiting) (Calling waiting) v.objects same (λ n m. m) h)
+      (λ weak weaks e. let more = if is_some (callback_of v.objects weak) then weak ∷ [] else [] in
+      goes_to (Clearing waiting) (Clearing (waiting ++ more)) (loses_referent weak v.objects) (lost_keeps weak v.objects) (λ n m. Includes-append_left waiting more n m) h)
   dying_minded (Calling waiting) code h = calling_minded waiting (code waiting refl) h
   dying_minded (AfterCall weak callback waiting) code h = give_minded k (callback ∷ weak ∷ []) (dying_now (AfterCall weak callback waiting))
       (dying_now (Calling waiting)) below v.objects v.objects v.names [] same (called callback weak waiting) (λ n m. absurd m) (λ n. refl) h
-  dying_minded LegacyFinalizer code h = legacy_minded (option_and_then (legacy_of script) (object_at v.objects o)) h
+  dying_minded LegacyFinalizer code h = option_either (λ lines. IsMinded k) (run_legacy script o below (at LegacyFinalizer)) (option_and_then (legacy_of script) (object_at v.objects o))
+      (λ e. goes_to LegacyFinalizer Detaching v.objects same (λ n m. m) h)
+      (λ p e. starts_minded k script (record { sort = Legacy; proc = p; subject = o; func = None })
+      (death_at o AfterLegacy below (with_change (with_place (Gen 0)) o (at LegacyFinalizer)))
+      (goes_to LegacyFinalizer AfterLegacy (change (with_place (Gen 0)) o v.objects) (change_keeps (with_place (Gen 0)) o v.objects (placed (Gen 0))) (λ n m. absurd m) h))
   dying_minded AfterLegacy code h = after_frame_minded AfterLegacy Detaching only refl h
-  dying_minded Detaching code h = detaching_minded (weak_references_if (has_finalizers script) v.objects o) h
-  dying_minded Emptying code h = emptying_minded (last_entry (entries_of v.objects o)) refl h
+  dying_minded Detaching code h = list_either (λ lines. IsMinded k) (detach_one o below (at Detaching)) (weak_references_if (has_finalizers script) v.objects o)
+      (λ e. goes_to Detaching Emptying v.objects same (λ n m. m) h)
+      (λ weak weaks e. goes_to Detaching Detaching (loses_referent weak v.objects) (lost_keeps weak v.objects) (λ n m. m) h)
+  dying_minded Emptying code h = option_either (λ lines. IsMinded k) (empty_one o below (at Emptying)) (last_entry (entries_of v.objects o))
+      (λ e. record { minds = gone_minds e h; single = λ x m. h.single x (Includes-filter_cases (λ (z : Object). not (z.serial == o)) v.objects x m).0; count = h.count })
+      (λ entry e. give_minded k (entry_references entry) (dying_now Emptying) (dying_now Emptying) below v.objects
+      (change (with_entries (without_last (entries_of v.objects o))) o v.objects) v.names (entry_references entry)
+      (shortened_keeps 1 v.next_serial v.objects o entry rises e) (λ n m. absurd m) (λ n m. inl m) (λ n. refl) h)

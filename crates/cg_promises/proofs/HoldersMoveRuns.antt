@@ -29,7 +29,7 @@ use Rattle.cg_laws.proofs.Origins.{IsAllOfScript}
 use Rattle.cg_laws.proofs.OriginsOfRuns.{opening_origin, step_origin}
 use Rattle.cg_laws.proofs.PrintableTexts.{commands_name_texts}
 use Rattle.cg_laws.proofs.UnheldRuns.{taken_calm}
-use Rattle.cg_laws.proofs.HeldLivesRuns.{gone_forgotten, taken_orderly}
+use Rattle.cg_laws.proofs.HeldLivesRuns.{gone_forgotten, taken_orderly, lives_or_not}
 use Rattle.cg_represents.proofs.Serials.{Rises}
 use Rattle.cg_laws.proofs.ShapeLaws.{changes_leave}
 use Rattle.cg_laws.proofs.Unheld.{Calm}
@@ -37,7 +37,6 @@ use Rattle.cg_promises.proofs.HoldersMove.{IsMinded, IsSingle, Minded, degree_fr
 use Rattle.cg_promises.proofs.HoldersMoveDeaths.{dying_minded, frame_end_minded, released_minded}
 use Rattle.cg_promises.proofs.HoldersMoveCollections.{phase_minded}
 use Rattle.cg_promises.proofs.HoldersMoveCommands.{IsHandMade, Shifts, shape_shifts, binds_shift}
-use Rattle.cg_promises.proofs.FinalizerOnceCommands.{lives_or_not}
 use Rattle.cg_promises.proofs.FinalizerOnceRuns.{Fit, opening_fit, step_fit}
 
 taken_member : (command : Command) (a b : Activity) (below : List Activity) → Takes command a b → Includes (flat_map commands_on (a ∷ below)) command

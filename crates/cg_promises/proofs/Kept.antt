@@ -13,10 +13,10 @@ use Rattle.cg_graph.specs.Value.{entry_references, item, references}
 use Rattle.cg_graph.specs.Object.{Object, change, with_entries, with_place, with_referent, without}
 use Rattle.cg_graph.specs.Holdings.{name_holdings}
 use Rattle.cg_graph.proofs.Members.{either, cases_of, Includes-append_left, Includes-append_right, Includes-append_cases, Includes-filter, Includes-map}
-use Rattle.cg_machine.specs.World.{World, Activity, TopLevel, Framed, Releasing, Dying, Collecting, Collection, CollectPhase, Turn, AfterTurn, Start, ShuttingDown}
+use Rattle.cg_machine.specs.World.{World, Activity, Releasing, Dying, Collecting, Collection, CollectPhase, Turn, AfterTurn, Start}
 use Rattle.cg_machine.specs.Holdings.{holds, in_degree, is_death_of, is_dying}
 use Rattle.cg_machine.specs.Weak.{AllLose, loses_referent}
-use Rattle.cg_machine.specs.Collect.{all_saved, is_condemned, saved}
+use Rattle.cg_machine.specs.Collect.{is_condemned, saved}
 use Rattle.cg_laws.proofs.Releasing.{none_holds}
 
 -- an object later: not condemned, with its references
@@ -68,11 +68,6 @@ pub saved_leaves : (kept : ℕ → Type 0) (o : ℕ) (objects : List Object) →
 saved_leaves kept o objects = test_leaves kept (λ x. with_entries (x.entries ++ item (Ref o) ∷ []) x) (λ x. x.serial == 1) objects
     (λ x m t k e. record { serial = refl; refers = λ r i. appended x.entries (item (Ref o) ∷ []) r i; clear = e })
 
-pub all_saved_leaves : (kept : ℕ → Type 0) (keeps : List ℕ) (objects : List Object) → Leaves kept objects (all_saved keeps objects)
-all_saved_leaves kept [] objects = leaves_same kept objects
-all_saved_leaves kept (o ∷ keeps) objects = leaves_trans kept objects (saved o objects) (all_saved keeps (saved o objects)) (saved_leaves kept o objects)
-    (all_saved_leaves kept keeps (saved o objects))
-
 -- other entries, for an object that is not kept
 pub entries_leave : (kept : ℕ → Type 0) (es : List Entry) (o : ℕ) (objects : List Object) → ¬ kept o → Leaves kept objects (change (with_entries es) o objects)
 entries_leave kept es o objects apart = test_leaves kept (with_entries es) (λ x. x.serial == o) objects (λ x m t k e. absurd (apart (subst kept (eqb-true x.serial o t) k)))
@@ -99,12 +94,9 @@ turns_of phase = []
 
 -- on top of the collection: releases, and deaths of objects that are not kept
 abbrev pub IsBare : (ℕ → Type 0) → Activity → Type 0
-IsBare kept (TopLevel commands) = ⊥
-IsBare kept (Framed f) = ⊥
 IsBare kept (Releasing references) = Unit {0}
 IsBare kept (Dying d) = ¬ kept d.object
-IsBare kept (Collecting c) = ⊥
-IsBare kept (ShuttingDown started) = ⊥
+IsBare kept a = ⊥
 
 pub record Full (kept : ℕ → Type 0) (start : List Object) (below : List Activity) (objects : List Object) (stack : List Activity) : Type 0 where
   pub tops : List Activity

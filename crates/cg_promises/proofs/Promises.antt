@@ -8,7 +8,7 @@ use Rattle.cg_graph.specs.Member.{Includes}
 use Rattle.cg_graph.specs.Object.{Object, serials}
 use Rattle.cg_graph.proofs.Members.{either, Includes-append_cases, Includes-append_right, Includes-map, Includes-map_cases}
 use Rattle.cg_machine.specs.declared.event.Event.{Event}
-use Rattle.cg_machine.specs.declared.event.Event.TheVariants.{Enter, Free, Made, Leave, Cleared, Alive, GcStart, GcCollectable, GcUncollectable, GcSaved, GcStop, Collected, Value, RefCount, Tracked, Finalized}
+use Rattle.cg_machine.specs.declared.event.Event.TheVariants.{Enter, Free}
 use Rattle.cg_machine.specs.declared.event.FrameSort.TheVariants.{Del, Legacy, Callback, Call}
 use Rattle.cg_machine.specs.World.{World, opening}
 use Rattle.cg_machine.specs.Holdings.{holdings}
@@ -18,7 +18,7 @@ use Rattle.cg_laws.proofs.Unreferred.{lives_within}
 use Rattle.cg_represents.proofs.Lists.{no_times}
 use Rattle.cg_laws.proofs.HeldLivesRuns.{held_live}
 use Rattle.cg_promises.specs.Lines.{NoDeadLines}
-use Rattle.cg_promises.proofs.FinalizerOnce.{Begins, KeepsFinalizers, IsPlain, Says}
+use Rattle.cg_promises.proofs.FinalizerOnce.{KeepsFinalizers, IsPlain, Says}
 use Rattle.cg_promises.proofs.FinalizerOnceRuns.{Fit, opening_fit, run_back, run_front, run_fit, step_fit, step_goes}
 
 -- The finalizer of an object begins.
@@ -30,21 +30,6 @@ count_append n xs ys = sum_by-append (λ e. cond (is_finalizer_of n e) 1 0) xs y
 
 plain_no : (n : ℕ) (event : Event) → IsPlain event → is_finalizer_of n event ≡ false
 plain_no n (Enter sort m) h = absurd h
-plain_no n (Made code m) h = refl
-plain_no n Leave h = refl
-plain_no n (Cleared m) h = refl
-plain_no n (Free m) h = refl
-plain_no n (Alive m) h = refl
-plain_no n (GcStart g) h = refl
-plain_no n (GcCollectable m) h = refl
-plain_no n (GcUncollectable m) h = refl
-plain_no n (GcSaved m) h = refl
-plain_no n (GcStop g m k) h = refl
-plain_no n (Collected m) h = refl
-plain_no n (Value v) h = refl
-plain_no n (RefCount m) h = refl
-plain_no n (Tracked b) h = refl
-plain_no n (Finalized b) h = refl
 plain_no n event h = refl
 
 none_counted : (n : ℕ) (events : List Event) → ((event : Event) → Includes events event → IsPlain event) → count_by (is_finalizer_of n) events ≡ 0
@@ -67,21 +52,18 @@ never : (n : ℕ) (w : World) (event : Event) (after : World) → is_finalizer_o
 never n w event after e = record { spent = λ s. e; spends = λ t. absurd (let no : true ≡ false = sym t ∙ e in cc) }
 
 module _ (script : Script) (n : ℕ) where
-  begun : (w after : World) (m : ℕ) → Fit script w → Begins w.objects after.objects m → Counts n w (Enter Del m) after
-  begun w after m fit b = record {
+  said : (w after : World) (event : Event) → Fit script w → Says w.objects after.objects event → Counts n w event after
+  said w after (Enter Del m) fit h = record {
     spent = λ s. go (m == n) refl s;
     spends = λ t. let same = eqb-true m n t in (
-      (lives_within 1 w.next_serial w.objects n fit.sound.rises (subst (Includes (serials w.objects)) (b.serial ∙ same) (Includes-map (λ (z : Object). z.serial) w.objects b.object b.member))).1,
-      λ y k e. b.marked y k (e ∙ sym same),
+      (lives_within 1 w.next_serial w.objects n fit.sound.rises (subst (Includes (serials w.objects)) (h.serial ∙ same) (Includes-map (λ (z : Object). z.serial) w.objects h.object h.member))).1,
+      λ y k e. h.marked y k (e ∙ sym same),
     );
   }
     where
       go : (t : Bool) → (m == n) ≡ t → IsSpent n w → t ≡ false
-      go true t s = absurd (let no : true ≡ false = sym (s.marked b.object b.member (b.serial ∙ eqb-true m n t)) ∙ b.unmarked in cc)
+      go true t s = absurd (let no : true ≡ false = sym (s.marked h.object h.member (h.serial ∙ eqb-true m n t)) ∙ h.unmarked in cc)
       go false t s = refl
-
-  said : (w after : World) (event : Event) → Fit script w → Says w.objects after.objects event → Counts n w event after
-  said w after (Enter Del m) fit h = begun w after m fit h
   said w after (Enter Legacy m) fit h = never n w (Enter Legacy m) after refl
   said w after (Enter Callback m) fit h = never n w (Enter Callback m) after refl
   said w after (Enter Call m) fit h = never n w (Enter Call m) after refl
@@ -150,11 +132,9 @@ module _ (script : Script) (n : ℕ) where
 
   said_not : (w after : World) (event : Event) → WasThere n w → Says w.objects after.objects event → ¬ Includes (named event) n
   said_not w after (Enter Del m) g h (inl e) = g.gone (subst (Includes (serials w.objects)) (h.serial ∙ e) (Includes-map (λ (z : Object). z.serial) w.objects h.object h.member))
-  said_not w after (Enter Legacy m) g h (inl e) = g.gone (subst (Includes (serials w.objects)) e h)
-  said_not w after (Enter Callback m) g h (inl e) = g.gone (subst (Includes (serials w.objects)) e h)
-  said_not w after (Enter Call m) g h (inl e) = g.gone (subst (Includes (serials w.objects)) e h)
   said_not w after (Enter sort m) g h (inr k) = absurd k
   said_not w after (Free m) g h (inl e) = g.gone (subst (Includes (serials w.objects)) e h.0)
+  said_not w after (Enter sort m) g h (inl e) = g.gone (subst (Includes (serials w.objects)) e h)
   said_not w after (Free m) g h (inr k) = absurd k
   said_not w after event g h k = absurd h
 

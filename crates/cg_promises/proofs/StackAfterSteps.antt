@@ -1,22 +1,19 @@
 -- The stack after a step of a collection; and an object that has its turn without SAVEALL was in its final set.
-use Rattle.std.proofs.Common.{◌≡◌, ◌≢◌, refl, sym, ◌∙◌, ap, subst, ℕ, ◌+◌, Bool, true, false, inl, inr, List, [], ◌∷◌, ◌++◌, map, length, Option, Some, None}
+use Rattle.std.proofs.Common.{◌≡◌, ◌≢◌, refl, sym, ◌∙◌, ap, subst, ℕ, ◌+◌, Bool, true, false, inl, inr, List, [], ◌∷◌, ◌++◌, map, length}
 use Rattle.std.specs.Prelude.{◌==◌, if◌then◌else◌}
 use Rattle.cg_value.specs.declared.Entry.{Entry}
 use Rattle.cg_value.specs.declared.Place.TheVariants.{Cand, Gen}
-use Rattle.cg_value.specs.declared.Val.TheVariants.{Ref}
 use Rattle.cg_script.specs.declared.Script.{Script}
 use Rattle.cg_graph.specs.Member.{Includes}
-use Rattle.cg_graph.specs.Value.{entry_references, item, last_entry, without_last}
-use Rattle.cg_graph.specs.Object.{Object, change, entries_of, is_at, is_tuple, objects_at, same_place, serials_at, with_entries, with_place}
+use Rattle.cg_graph.specs.Value.{entry_references, last_entry, without_last}
+use Rattle.cg_graph.specs.Object.{Object, change, entries_of, is_at, objects_at, same_place, serials_at, with_entries, with_place}
 use Rattle.cg_graph.proofs.Members.{either, Includes-filter, Includes-filter_cases, Includes-map, Includes-map_cases}
 use Rattle.cg_machine.specs.declared.event.Event.{Event}
-use Rattle.cg_machine.specs.declared.event.Event.TheVariants.{GcSaved}
-use Rattle.cg_machine.specs.World.{World, Activity, Releasing, Collecting, Collection, CollectPhase, Start, WeakClearing, WeakCalling, AfterCallback, AfterRelease, Finalizing, AfterFinalizing, Split, Turns, Turn, AfterTurn, Ending, with_change, with_objects}
-use Rattle.cg_machine.specs.Frame.{Transition}
-use Rattle.cg_machine.specs.Collect.{collection_at, empties, has_flag, older, save_all, saved, takes_turn, PhaseStep, TurnsStep}
+use Rattle.cg_machine.specs.World.{World, Activity, Releasing, Collecting, Collection, CollectPhase, Split, Turns, Turn, AfterTurn, Ending}
+use Rattle.cg_machine.specs.Collect.{collection_at, empties, has_flag, older, save_all, takes_turn, PhaseStep}
 use Rattle.cg_laws.proofs.SetsApart.{NoneCollects}
-use Rattle.cg_laws.proofs.Advances.{Advance, Plainly, WithFrame, Continues, DeathGoesOn, DeathClears, CollectionGoesOn, IsEarly, Tops, TopEnds, GivesFunction, GivesReference, BeginsDeath, TopGoesOn, GivesReferences}
-use Rattle.cg_laws.proofs.Starting.{begun_frame, starts_either}
+use Rattle.cg_laws.proofs.Advances.{Advance, Plainly, WithFrame, Continues, CollectionGoesOn, IsEarly, Tops, TopEnds, TopGoesOn, GivesReferences}
+use Rattle.cg_laws.proofs.Starting.{begun_frame, starts_either, turn_either, option_either}
 use Rattle.cg_represents.proofs.Places.{place_is}
 
 -- a collection in an early phase goes on to one
@@ -28,21 +25,18 @@ module _ (script : Script) (v : World) (c : Collection) (below : List Activity) 
   over_early a stack none h early other d m = either m (λ e. absurd (none d e)) (h early other d)
 
   continues_early : (before after : List Object) (top a : Activity) → Continues before after top a → top ≡ Collecting c → AreEarly (a ∷ below)
-  continues_early before after top a (DeathGoesOn o phase next fewer none) e = absurd (cc)
-  continues_early before after top a (DeathClears o weak waiting weaks t first lost) e = absurd (cc)
   continues_early before after top a (CollectionGoesOn b next same begun on) e = λ early other d m.
       let is : b ≡ c = cc in
       either m (λ i. let same : next ≡ d = cc in subst (λ (z : Collection). IsEarly z.phase) same
       (on (subst (λ (z : Collection). IsEarly z.phase) (sym is) early) (subst (λ (z : Collection). z.phase ≢ Split) (sym is) other))) (λ k. absurd
       (alone d k))
+  continues_early before after top a other e = absurd (cc)
 
   tops_early : (before after : List Object) (top : Activity) (tops : List Activity) → Tops before after top tops → top ≡ Collecting c → AreEarly (tops ++ below)
   tops_early before after top tops (TopEnds a gone) e = λ early other d m. absurd (alone d m)
-  tops_early before after top tops (GivesFunction f references few) e = absurd (cc)
-  tops_early before after top tops (GivesReference o references) e = absurd (cc)
-  tops_early before after top tops (BeginsDeath o references) e = absurd (cc)
   tops_early before after top tops (TopGoesOn t a k held) e = continues_early before after t a k e
   tops_early before after top tops (GivesReferences t a references few k held) e = over_early (Releasing references) (a ∷ below) (λ d i. cc) (continues_early before after t a k e)
+  tops_early before after top tops other e = absurd (cc)
 
   pub early_after : (lines : List Event) (after : World) → Advance script v (Collecting c) below lines after → AreEarly after.stack
   early_after lines after (Plainly tops objects numbers ls t k n shown) = tops_early v.objects objects (Collecting c) tops t refl
@@ -84,9 +78,6 @@ older_stood g o objects = if_stood (with_place (Gen g)) (λ x. x.serial == o) ob
 entries_stood : (es : List Entry) (o : ℕ) (objects : List Object) → Stood objects (change (with_entries es) o objects)
 entries_stood es o objects = if_stood (with_entries es) (λ x. x.serial == o) objects (λ x. refl) (λ x e. e)
 
-saved_stood : (o : ℕ) (objects : List Object) → Stood objects (saved o objects)
-saved_stood o objects = if_stood (λ x. with_entries (x.entries ++ item (Ref o) ∷ []) x) (λ x. x.serial == 1) objects (λ x. refl) (λ x e. e)
-
 pub finals_stay : (Was : ℕ → Type 0) (c d : Collection) (before after : List Object) → d.flags ≡ c.flags → Stood before after → Finals Was c before → Finals Was d after
 finals_stay Was c d before after flags stood h clears y m e = let x = stood y m e in subst Was x.2 (h (subst (λ f. has_flag f save_all ≡ false) flags clears) x.0 x.1 x.3)
 
@@ -95,15 +86,7 @@ pub final_stays : (Was : ℕ → Type 0) (before after : List Object) → Stood 
 final_stays Was before after stood c Turns h = finals_stay Was c c before after refl stood h
 final_stays Was before after stood c (Turn o) h = (finals_stay Was c c before after refl stood h.0, h.1)
 final_stays Was before after stood c (AfterTurn o) h = finals_stay Was c c before after refl stood h
-final_stays Was before after stood c Start h = tt
-final_stays Was before after stood c (WeakClearing waiting) h = tt
-final_stays Was before after stood c (WeakCalling waiting) h = tt
-final_stays Was before after stood c (AfterCallback weak waiting) h = tt
-final_stays Was before after stood c (AfterRelease weak waiting) h = tt
-final_stays Was before after stood c Finalizing h = tt
-final_stays Was before after stood c (AfterFinalizing o) h = tt
-final_stays Was before after stood c Split h = tt
-final_stays Was before after stood c Ending h = tt
+final_stays Was before after stood c phase h = tt
 
 early_final : (Was : ℕ → Type 0) (c : Collection) (phase : CollectPhase) (objects : List Object) → IsEarly phase → FinalAt Was c phase objects
 early_final Was c Turns objects early = absurd early
@@ -128,30 +111,10 @@ module _ (Was : ℕ → Type 0) (script : Script) (c : Collection) (below : List
   under refs objects stack h b m = either m (λ e. cc) (h b)
 
   turn_final : (x : Object) → Includes v.objects x → x.place ≡ Cand → Finals Was c v.objects → FinalIn (takes_turn c x below (standing Turns)).1
-  turn_final x m at h = go (has_flag c.flags save_all) (is_tuple x) refl
-    where
-      go : (s t : Bool) → has_flag c.flags save_all ≡ s
-          → (let next : Transition = if s
-          then (
-            GcSaved x.serial ∷ [],
-            collection_at c Turns below (with_objects (change (with_place (Gen (older c.generation))) x.serial
-                (saved x.serial v.objects)) (standing Turns)),
-          )
-          else if t then ([], collection_at c Turns below (with_change (with_place (Gen (older c.generation))) x.serial (standing Turns)))
-          else ([], collection_at c (Turn x.serial) below (standing Turns)) in FinalIn next.1)
-      go true t e = only (record c { phase = Turns }) _ (λ clears. absurd (let no : true ≡ false = sym e ∙ clears in cc))
-      go false true e = only (record c { phase = Turns }) _ (finals_stay Was c (record c { phase = Turns }) v.objects _ refl (older_stood (older c.generation) x.serial v.objects) h)
-      go false false e = only (record c { phase = Turn x.serial }) v.objects (h, h e x m at)
-
-  turns_final : (events : List Event) (after : World) → TurnsStep c below (standing Turns) events after → Finals Was c v.objects → FinalIn after
-  turns_final events after (inl step) h = let f = Includes-filter_cases (is_at Cand) v.objects step.object step.member in reach after _ step.yields.1
-      (turn_final step.object f.0 (place_is step.object.place Cand f.1) h)
-  turns_final events after (inr step) h = reach after _ step.1.1 (only (record c { phase = Ending }) v.objects tt)
-
-  empties_final : (o : ℕ) (m : Option Entry) → Finals Was c v.objects → Was o → FinalIn (empties c o below (standing (Turn o)) m).1
-  empties_final o None h w = under (o ∷ []) v.objects (Collecting (record c { phase = AfterTurn o }) ∷ below) (only (record c { phase = AfterTurn o }) v.objects h)
-  empties_final o (Some entry) h w = under (entry_references entry) _ (Collecting (record c { phase = Turn o }) ∷ below) (only (record c { phase = Turn o }) _
-      (finals_stay Was c (record c { phase = Turn o }) v.objects _ refl (entries_stood (without_last (entries_of v.objects o)) o v.objects) h, w))
+  turn_final x m at h = turn_either (λ lines. FinalIn) c x below (standing Turns)
+      (λ e. only (record c { phase = Turns }) _ (λ clears. absurd (let no : true ≡ false = sym e ∙ clears in cc)))
+      (λ e t. only (record c { phase = Turns }) _ (finals_stay Was c (record c { phase = Turns }) v.objects _ refl (older_stood (older c.generation) x.serial v.objects) h))
+      (λ e t. only (record c { phase = Turn x.serial }) v.objects (h, h e x m at))
 
   pub late_final : (phase : CollectPhase) (events : List Event) (after : World) → PhaseStep script c phase below (standing phase) events after
       → ((o : ℕ) → has_flag c.flags save_all ≡ false → phase ≡ Split → Includes (serials_at after.objects Cand) o → Was o)
@@ -161,16 +124,14 @@ module _ (Was : ℕ → Type 0) (script : Script) (c : Collection) (below : List
     where
       member : (x : Object) → Includes step.objects x → x.place ≡ Cand → Includes (serials_at step.objects Cand) x.serial
       member x m e = Includes-map (λ (z : Object). z.serial) (objects_at step.objects Cand) x (Includes-filter (is_at Cand) step.objects x (ap (λ p. same_place p Cand) e) m)
-  late_final Turns events after step splits early h = turns_final events after step h
-  late_final (Turn o) events after step splits early h = reach after _ step.1 (empties_final o (last_entry (entries_of v.objects o)) h.0 h.1)
+  late_final Turns events after (inl step) splits early h = let f = Includes-filter_cases (is_at Cand) v.objects step.object step.member in reach after _ step.yields.1
+      (turn_final step.object f.0 (place_is step.object.place Cand f.1) h)
+  late_final Turns events after (inr step) splits early h = reach after _ step.1.1 (only (record c { phase = Ending }) v.objects tt)
+  late_final (Turn o) events after step splits early h = reach after _ step.1 (option_either (λ lines. FinalIn) (empties c o below (standing (Turn o))) (last_entry (entries_of v.objects o))
+      (λ e. under (o ∷ []) v.objects (Collecting (record c { phase = AfterTurn o }) ∷ below) (only (record c { phase = AfterTurn o }) v.objects h.0))
+      (λ entry e. under (entry_references entry) _ (Collecting (record c { phase = Turn o }) ∷ below) (only (record c { phase = Turn o }) _
+      (finals_stay Was c (record c { phase = Turn o }) v.objects _ refl (entries_stood (without_last (entries_of v.objects o)) o v.objects) h.0, h.1))))
   late_final (AfterTurn o) events after step splits early h =
       reach after _ step.1 (only (record c { phase = Turns }) _ (finals_stay Was c (record c { phase = Turns }) v.objects _ refl
       (older_stood (older c.generation) o v.objects) h))
-  late_final Start events after step splits early h = λ d m. early_final Was d d.phase after.objects (early d m tt (λ e. cc))
-  late_final (WeakClearing waiting) events after step splits early h = λ d m. early_final Was d d.phase after.objects (early d m tt (λ e. cc))
-  late_final (WeakCalling waiting) events after step splits early h = λ d m. early_final Was d d.phase after.objects (early d m tt (λ e. cc))
-  late_final (AfterCallback weak waiting) events after step splits early h = λ d m. early_final Was d d.phase after.objects (early d m tt (λ e. cc))
-  late_final (AfterRelease weak waiting) events after step splits early h = λ d m. early_final Was d d.phase after.objects (early d m tt (λ e. cc))
-  late_final Finalizing events after step splits early h = λ d m. early_final Was d d.phase after.objects (early d m tt (λ e. cc))
-  late_final (AfterFinalizing o) events after step splits early h = λ d m. early_final Was d d.phase after.objects (early d m tt (λ e. cc))
-  late_final Ending events after step splits early h = λ d m. early_final Was d d.phase after.objects (early d m tt (λ e. cc))
+  late_final at_phase events after step splits early h = λ d m. early_final Was d d.phase after.objects (early d m tt (λ e. cc))

@@ -2,7 +2,6 @@
 use Rattle.std.proofs.Common.{◌≡◌, ◌≢◌, refl, sym, ◌∙◌, ap, subst, ℕ, ◌+◌, Bool, true, false, inl, inr, List, [], ◌∷◌, ◌++◌, map, length, Option, Some, None}
 use Rattle.std.specs.Prelude.{◌==◌, ◌||◌, if◌then◌else◌, option_and_then, option_map, unwrap_or}
 use Rattle.std.proofs.lemmas.Bool.{eqb-true}
-use Rattle.cg_value.specs.declared.Entry.{Entry}
 use Rattle.cg_value.specs.declared.KindCode.{KindCode}
 use Rattle.cg_value.specs.declared.KindCode.TheVariants.{List as ListKind, Tuple, Dict, Inst, Func, Weak}
 use Rattle.cg_value.specs.declared.Place.{Place}
@@ -11,18 +10,17 @@ use Rattle.cg_value.specs.declared.Val.TheVariants.{Ref}
 use Rattle.cg_script.specs.declared.Script.{Script}
 use Rattle.cg_graph.specs.Member.{Includes, includes}
 use Rattle.cg_graph.specs.Value.{entry_references, item, last_entry, without_last}
-use Rattle.cg_graph.specs.Object.{Object, change, object_at, objects_at, entries_of, is_at, is_in_map, is_tuple, marked, same_place, serials_at, with_entries, with_place}
+use Rattle.cg_graph.specs.Object.{Object, change, object_at, objects_at, entries_of, is_at, is_tuple, marked, same_place, serials_at, with_entries, with_place}
 use Rattle.cg_graph.specs.Reach.{first, next as further}
 use Rattle.cg_graph.proofs.Members.{Includes-map, Includes-map_cases, Includes-filter_cases, Includes-of}
 use Rattle.cg_machine.specs.declared.event.Event.{Event}
-use Rattle.cg_machine.specs.declared.event.Event.TheVariants.{GcSaved}
 use Rattle.cg_machine.specs.declared.event.FrameSort.TheVariants.{Del, Callback}
 use Rattle.cg_machine.specs.World.{World, Activity, Releasing, Dying, Death, Collecting, Collection, CollectPhase, Start, WeakClearing, WeakCalling, AfterCallback, AfterRelease, Finalizing, AfterFinalizing, Split, Turns, Turn, AfterTurn, Ending, with_change, with_objects}
-use Rattle.cg_machine.specs.Frame.{Transition, procedure_of}
+use Rattle.cg_machine.specs.Frame.{procedure_of}
 use Rattle.cg_machine.specs.Weak.{AllLose, callback_of, loses_referent}
 use Rattle.cg_machine.specs.Dying.{finalizer_to_run}
-use Rattle.cg_machine.specs.Collect.{all_saved, calls_back, after_release, collection_at, empties, get_older, has_flag, is_condemned, is_condemned_in, loses_in_weak_phase, looks_at, loses_at_split, merged, merged_place, older, save_all, saved, sorted, takes_turn, waits, EndStep, FinalizingStep, PhaseStep, SplitStep, StartStep, Survives, TurnsStep, WeakClearingStep}
-use Rattle.cg_laws.proofs.Starting.{either_way}
+use Rattle.cg_machine.specs.Collect.{all_saved, calls_back, after_release, collection_at, empties, get_older, is_condemned, is_condemned_in, loses_in_weak_phase, looks_at, loses_at_split, merged, merged_place, older, saved, sorted, takes_turn, waits, PhaseStep, Survives}
+use Rattle.cg_laws.proofs.Starting.{turn_either, called_back_either, option_either}
 use Rattle.cg_represents.proofs.Serials.{Rises, Rises-map}
 use Rattle.cg_laws.proofs.Lookups.{same_object}
 use Rattle.cg_laws.proofs.Unreferred.{lives_within}
@@ -133,47 +131,6 @@ module _ (script : Script) (c : Collection) (below : List Activity) (v : World) 
       → Slack v.next_serial objects (Releasing references ∷ collecting c next ∷ below)
   gives references phase next objects still hand h = push_slack v.next_serial (Releasing references) (collecting c next ∷ below) objects (λ d e. cc) (goes_to phase c next objects still hand h)
 
-  start_slack : (events : List Event) (after : World) → StartStep script (at Start) c below events after → IsSlackWorld (at Start) → IsSlackWorld after
-  start_slack events after step h = to after _ step.world (hard_to hard Start c (WeakClearing []) (sorted c.generation step.places now)
-      (still_trans hard v.objects now (sorted c.generation step.places now) (merge_still hard c.generation v.objects)
-      (sort_still script c.generation (merged c.generation (at Start)) step.chosen step.places v.next_serial rises_now step.sorts))
-      (λ n k. inr k) (λ o m. absurd m) h)
-    where
-      now : List Object
-      now = (merged c.generation v).objects
-
-      rises_now : Rises 1 v.next_serial now
-      rises_now = Rises-map (λ x. with_place (merged_place c.generation x.place) x) (λ x. refl) 1 v.next_serial v.objects rises
-
-      hard : ℕ → Type 0
-      hard = Anew script c.generation (merged c.generation (at Start)) step.chosen step.places v.next_serial rises_now step.sorts
-
-  weak_clearing_slack : (waiting : List ℕ) (events : List Event) (after : World) → HasOrder (at (WeakClearing waiting))
-      → WeakClearingStep (profile_of script.items) c waiting below (at (WeakClearing waiting)) events after → IsSlackWorld (at (WeakClearing waiting))
-      → IsSlackWorld after
-  weak_clearing_slack waiting events after order (inl step) h = to after _ step.yields.1 (go (waits v.objects step.weak))
-    where
-      lost : List Object
-      lost = loses_referent step.weak v.objects
-
-      code : step.newest.object.code ≡ Weak
-      code = loses_weak (profile_of script.items) v.objects step.newest.object (order.codes step.newest.object step.newest.member) step.newest.to_lose
-
-      apart : (x : Object) → Includes lost x → x.serial ≡ step.weak → is_tuple x ≡ true → x.place ≢ Untracked
-      apart x m s t =
-          let z = lost_still Never step.weak v.objects x m in
-          let same : step.newest.object ≡ z.0 = same_object 1 v.next_serial v.objects step.newest.object z.0 rises step.newest.member z.1 (step.newest.is ∙ sym s ∙ z.2.stays.serial) in
-          absurd (false_true (sym t ∙ weak_apart x (z.2.stays.code ∙ ap (λ (q : Object). q.code) (sym same) ∙ code)))
-
-      go : (t : Bool) → IsSlackWorld (if t then collection_at c (WeakClearing (waiting ++ step.weak ∷ [])) below
-          (with_objects (change (with_place Pend) step.weak lost) (at (WeakClearing waiting))) else collection_at c (WeakClearing waiting) below
-          (with_objects lost (at (WeakClearing waiting))))
-      go true = goes_to (WeakClearing waiting) c (WeakClearing (waiting ++ step.weak ∷ [])) (change (with_place Pend) step.weak lost)
-          (still_trans Never v.objects lost (change (with_place Pend) step.weak lost) (lost_still Never step.weak v.objects)
-          (one_still Never Pend step.weak lost (λ e. cc) apart)) (λ o m. absurd m) h
-      go false = goes_to (WeakClearing waiting) c (WeakClearing waiting) lost (lost_still Never step.weak v.objects) (λ o m. absurd m) h
-  weak_clearing_slack waiting events after order (inr step) h = to after _ step.1.1 (goes_to (WeakClearing waiting) c (WeakCalling waiting) v.objects same (λ o m. absurd m) h)
-
   weak_calling_slack : (waiting : List ℕ) → HasOrder (at (WeakCalling waiting)) → IsSlackWorld (at (WeakCalling waiting))
       → IsSlackWorld (calls_back script c waiting below (at (WeakCalling waiting))).1
   weak_calling_slack [] order h = goes_to (WeakCalling []) c Finalizing v.objects same (λ o m. absurd m) h
@@ -194,44 +151,20 @@ module _ (script : Script) (c : Collection) (below : List Activity) (v : World) 
   handed phase o m h = one_still Never (Gen (older c.generation)) o v.objects (older_tracked (older c.generation)) (λ x i s t. absurd (false_true (sym t ∙ (at_hand phase h o m).1 x i s)))
 
   after_release_slack : (weak : ℕ) (waiting : List ℕ) → IsSlackWorld (at (AfterRelease weak waiting)) → IsSlackWorld (after_release c weak waiting below (at (AfterRelease weak waiting))).1
-  after_release_slack weak waiting h = either_way (λ lines. IsSlackWorld) (is_in_map v.objects weak)
-      ([], collection_at c (WeakCalling waiting) below (with_change (with_place (Gen (older c.generation))) weak (at (AfterRelease weak waiting))))
-      ([], collection_at (record c { collected = c.collected + 1 }) (WeakCalling waiting) below (at (AfterRelease weak waiting)))
-      (goes_to (AfterRelease weak waiting) c (WeakCalling waiting) (change (with_place (Gen (older c.generation))) weak v.objects)
+  after_release_slack weak waiting h = called_back_either (λ lines. IsSlackWorld) c weak waiting below (at (AfterRelease weak waiting))
+      (λ t. goes_to (AfterRelease weak waiting) c (WeakCalling waiting) (change (with_place (Gen (older c.generation))) weak v.objects)
       (handed (AfterRelease weak waiting) weak (inl refl) h) (λ o m. absurd m) h)
-      (goes_to (AfterRelease weak waiting) (record c { collected = c.collected + 1 }) (WeakCalling waiting) v.objects same (λ o m. absurd m) h)
-
-  looks_at_slack : (o : ℕ) (m : Option ℕ) → Includes (serials_at v.objects Cand) o → IsSlackWorld (at Finalizing) → IsSlackWorld (looks_at script c o below (at Finalizing) m).1
-  looks_at_slack o None i h = goes_to Finalizing c Finalizing (change (with_place Seen) o v.objects) (one_still Never Seen o v.objects (λ e. cc)
-      (λ x k s t. member_tracked v.next_serial Cand v.objects o rises refl i x k s)) (λ o m. absurd m) h
-  looks_at_slack o (Some p) i h = starts_slack script (record { sort = Del; proc = p; subject = o; func = None }) (collection_at c (AfterFinalizing o) below
-      (with_change (λ x. marked (with_place Seen x)) o (at Finalizing)))
-      (goes_to Finalizing c (AfterFinalizing o) (change (λ x. marked (with_place Seen x)) o v.objects) (test_still Never (λ x. marked (with_place Seen x))
-      (λ x. x.serial == o) v.objects (λ x k t. record {
-        stays = record { serial = refl; code = refl; untracked = λ a u. absurd (member_tracked v.next_serial Cand v.objects o rises refl i x k (eqb-true x.serial o t) u) };
-        loses = inr (λ u. absurd (let no : Seen ≡ Untracked = u in cc));
-      })) (λ o m. absurd m) h)
-
-  finalizing_slack : (events : List Event) (after : World) → FinalizingStep script c below (at Finalizing) events after → IsSlackWorld (at Finalizing) → IsSlackWorld after
-  finalizing_slack events after (inl step) h = to after _ step.yields.1 (looks_at_slack step.object (option_and_then (finalizer_to_run script) (object_at v.objects step.object)) step.condemned h)
-  finalizing_slack events after (inr step) h = to after _ step.1.1 (goes_to Finalizing c Split (map (λ x. if is_at Seen x then with_place Cand x else x)
-      v.objects) (spread_still Never Seen Cand v.objects refl (λ e. cc)) (λ o m. absurd m) h)
-
-  split_slack : (events : List Event) (after : World) → SplitStep c below (at Split) events after → IsSlackWorld (at Split) → IsSlackWorld after
-  split_slack events after step h = to after _ step.world (goes_to Split (record c { collected = c.collected + length (serials_at step.objects Cand) }) Turns step.objects
-      (still_trans Never v.objects now step.objects (test_still Never (with_place (Gen (older c.generation))) (λ x. includes step.alive x.serial) v.objects
-      (λ x m t. placed_goes Never (Gen (older c.generation)) x (older_tracked (older c.generation)) (λ a. alive x m t)))
-      (all_lose_still Never (loses_at_split now) step.cleared now step.objects step.lose)) (λ o m. absurd m) h)
-    where
-      now : List Object
-      now = get_older c.generation step.alive v.objects
-
-      alive : (x : Object) → Includes v.objects x → includes step.alive x.serial ≡ true → x.place ≢ Untracked
-      alive x m t = member_tracked v.next_serial Cand v.objects x.serial rises refl (survivor_inside (at Split) Cand x.serial
-          ((step.survivors x.serial).0 (Includes-of step.alive x.serial t))) x m refl
+      (λ t. goes_to (AfterRelease weak waiting) (record c { collected = c.collected + 1 }) (WeakCalling waiting) v.objects same (λ o m. absurd m) h)
 
   turn_taken : (x : Object) → Includes (objects_at v.objects Cand) x → IsSlackWorld (at Turns) → IsSlackWorld (takes_turn c x below (at Turns)).1
-  turn_taken x m h = go (has_flag c.flags save_all) (is_tuple x) refl
+  turn_taken x m h = turn_either (λ lines. IsSlackWorld) c x below (at Turns)
+      (λ s. hard_to IsRoot Turns c Turns (change (with_place (Gen (older c.generation))) x.serial kept)
+      (still_trans IsRoot v.objects kept (change (with_place (Gen (older c.generation))) x.serial kept) (saved_still x.serial v.objects)
+      (one_still IsRoot (Gen (older c.generation)) x.serial kept (older_tracked (older c.generation)) (λ z i s a. tracked_kept z i s)))
+      (λ n k. inl (inl k)) (λ o m. absurd m) h)
+      (λ s e. goes_to Turns c Turns (change (with_place (Gen (older c.generation))) x.serial v.objects) (one_still Never (Gen (older c.generation))
+      x.serial v.objects (older_tracked (older c.generation)) (λ z i s a. tracked z i s)) (λ o m. absurd m) h)
+      (λ s e. goes_to Turns c (Turn x.serial) v.objects same (turn e) h)
     where
       kept : List Object
       kept = saved x.serial v.objects
@@ -252,34 +185,80 @@ module _ (script : Script) (c : Collection) (below : List Activity) (v : World) 
           member = (Includes-filter_cases (is_at Cand) v.objects x m).0
       turn t o (inr k) = absurd k
 
-      go : (s t : Bool) → is_tuple x ≡ t
-          → (let next : Transition = if s
-          then (
-            GcSaved x.serial ∷ [],
-            collection_at c Turns below (with_objects (change (with_place (Gen (older c.generation))) x.serial
-                (saved x.serial v.objects)) (at Turns)),
-          )
-          else if t then ([], collection_at c Turns below (with_change (with_place (Gen (older c.generation))) x.serial (at Turns)))
-          else ([], collection_at c (Turn x.serial) below (at Turns)) in IsSlackWorld next.1)
-      go true t e = hard_to IsRoot Turns c Turns (change (with_place (Gen (older c.generation))) x.serial kept)
-          (still_trans IsRoot v.objects kept (change (with_place (Gen (older c.generation))) x.serial kept) (saved_still x.serial v.objects)
-          (one_still IsRoot (Gen (older c.generation)) x.serial kept (older_tracked (older c.generation)) (λ z i s a. tracked_kept z i s)))
-          (λ n k. inl (inl k)) (λ o m. absurd m) h
-      go false true e = goes_to Turns c Turns (change (with_place (Gen (older c.generation))) x.serial v.objects) (one_still Never (Gen (older c.generation))
-          x.serial v.objects (older_tracked (older c.generation)) (λ z i s a. tracked z i s)) (λ o m. absurd m) h
-      go false false e = goes_to Turns c (Turn x.serial) v.objects same (turn e) h
+  pub phase_slack : (phase : CollectPhase) (events : List Event) (after : World) → HasOrder (at phase) → PhaseStep script c phase below (at phase) events after
+      → IsSlackWorld (at phase) → IsSlackWorld after
+  phase_slack Start events after order step h = to after _ step.world (hard_to hard Start c (WeakClearing []) (sorted c.generation step.places now)
+      (still_trans hard v.objects now (sorted c.generation step.places now) (merge_still hard c.generation v.objects)
+      (sort_still script c.generation (merged c.generation (at Start)) step.chosen step.places v.next_serial rises_now step.sorts))
+      (λ n k. inr k) (λ o m. absurd m) h)
+    where
+      now : List Object
+      now = (merged c.generation v).objects
 
-  turns_slack : (events : List Event) (after : World) → TurnsStep c below (at Turns) events after → IsSlackWorld (at Turns) → IsSlackWorld after
-  turns_slack events after (inl step) h = to after _ step.yields.1 (turn_taken step.object step.member h)
-  turns_slack events after (inr step) h = to after _ step.1.1 (goes_to Turns c Ending v.objects same (λ o m. absurd m) h)
+      rises_now : Rises 1 v.next_serial now
+      rises_now = Rises-map (λ x. with_place (merged_place c.generation x.place) x) (λ x. refl) 1 v.next_serial v.objects rises
 
-  empties_slack : (o : ℕ) (m : Option Entry) → IsSlackWorld (at (Turn o)) → IsSlackWorld (empties c o below (at (Turn o)) m).1
-  empties_slack o None h = gives (o ∷ []) (Turn o) (AfterTurn o) v.objects same (at_hand (Turn o) h) h
-  empties_slack o (Some entry) h = gives (entry_references entry) (Turn o) (Turn o) (change (with_entries (without_last (entries_of v.objects o))) o v.objects)
-      (shortened_still Never v.next_serial v.objects o rises) (at_hand (Turn o) h) h
+      hard : ℕ → Type 0
+      hard = Anew script c.generation (merged c.generation (at Start)) step.chosen step.places v.next_serial rises_now step.sorts
+  phase_slack (WeakClearing waiting) events after order (inl step) h = to after _ step.yields.1 (go (waits v.objects step.weak))
+    where
+      lost : List Object
+      lost = loses_referent step.weak v.objects
 
-  end_reached : (events : List Event) (after : World) → EndStep script c below (at Ending) events after → IsSlackWorld (at Ending) → IsSlackWorld after
-  end_reached events after step h = to after _ step.world (moves_slack IsRoot v.next_serial v.objects
+      code : step.newest.object.code ≡ Weak
+      code = loses_weak (profile_of script.items) v.objects step.newest.object (order.codes step.newest.object step.newest.member) step.newest.to_lose
+
+      apart : (x : Object) → Includes lost x → x.serial ≡ step.weak → is_tuple x ≡ true → x.place ≢ Untracked
+      apart x m s t =
+          let z = lost_still Never step.weak v.objects x m in
+          let same : step.newest.object ≡ z.0 = same_object 1 v.next_serial v.objects step.newest.object z.0 rises step.newest.member z.1 (step.newest.is ∙ sym s ∙ z.2.stays.serial) in
+          absurd (false_true (sym t ∙ weak_apart x (z.2.stays.code ∙ ap (λ (q : Object). q.code) (sym same) ∙ code)))
+
+      go : (t : Bool) → IsSlackWorld (if t then collection_at c (WeakClearing (waiting ++ step.weak ∷ [])) below
+          (with_objects (change (with_place Pend) step.weak lost) (at (WeakClearing waiting))) else collection_at c (WeakClearing waiting) below
+          (with_objects lost (at (WeakClearing waiting))))
+      go true = goes_to (WeakClearing waiting) c (WeakClearing (waiting ++ step.weak ∷ [])) (change (with_place Pend) step.weak lost)
+          (still_trans Never v.objects lost (change (with_place Pend) step.weak lost) (lost_still Never step.weak v.objects)
+          (one_still Never Pend step.weak lost (λ e. cc) apart)) (λ o m. absurd m) h
+      go false = goes_to (WeakClearing waiting) c (WeakClearing waiting) lost (lost_still Never step.weak v.objects) (λ o m. absurd m) h
+  phase_slack (WeakClearing waiting) events after order (inr step) h = to after _ step.1.1 (goes_to (WeakClearing waiting) c (WeakCalling waiting) v.objects same (λ o m. absurd m) h)
+  phase_slack (WeakCalling waiting) events after order step h = to after _ step.1 (weak_calling_slack waiting order h)
+  phase_slack (AfterCallback weak waiting) events after order step h = to after _ step.1 (gives (weak ∷ []) (AfterCallback weak waiting)
+      (AfterRelease weak waiting) v.objects same (at_hand (AfterCallback weak waiting) h) h)
+  phase_slack (AfterRelease weak waiting) events after order step h = to after _ step.1 (after_release_slack weak waiting h)
+  phase_slack Finalizing events after order (inl step) h = to after _ step.yields.1 (option_either (λ lines. IsSlackWorld) (looks_at script c step.object below (at Finalizing)) (option_and_then (finalizer_to_run script) (object_at v.objects step.object))
+      (λ is. goes_to Finalizing c Finalizing (change (with_place Seen) step.object v.objects) (one_still Never Seen step.object v.objects (λ e. cc)
+      (λ x k s t. member_tracked v.next_serial Cand v.objects step.object rises refl step.condemned x k s)) (λ o m. absurd m) h)
+      (λ p is. starts_slack script (record { sort = Del; proc = p; subject = step.object; func = None }) (collection_at c (AfterFinalizing step.object) below
+      (with_change (λ x. marked (with_place Seen x)) step.object (at Finalizing)))
+      (goes_to Finalizing c (AfterFinalizing step.object) (change (λ x. marked (with_place Seen x)) step.object v.objects) (test_still Never (λ x. marked (with_place Seen x))
+      (λ x. x.serial == step.object) v.objects (λ x k t. record {
+        stays = record { serial = refl; code = refl; untracked = λ a u. absurd (member_tracked v.next_serial Cand v.objects step.object rises refl step.condemned x k (eqb-true x.serial step.object t) u) };
+        loses = inr (λ u. absurd (let no : Seen ≡ Untracked = u in cc));
+      })) (λ o m. absurd m) h)))
+  phase_slack Finalizing events after order (inr step) h = to after _ step.1.1 (goes_to Finalizing c Split (map (λ x. if is_at Seen x then with_place Cand x else x)
+      v.objects) (spread_still Never Seen Cand v.objects refl (λ e. cc)) (λ o m. absurd m) h)
+  phase_slack (AfterFinalizing o) events after order step h = to after _ step.1 (gives (o ∷ []) (AfterFinalizing o) Finalizing v.objects same (λ p m. absurd m) h)
+  phase_slack Split events after order step h = to after _ step.world (goes_to Split (record c { collected = c.collected + length (serials_at step.objects Cand) }) Turns step.objects
+      (still_trans Never v.objects now step.objects (test_still Never (with_place (Gen (older c.generation))) (λ x. includes step.alive x.serial) v.objects
+      (λ x m t. placed_goes Never (Gen (older c.generation)) x (older_tracked (older c.generation)) (λ a. alive x m t)))
+      (all_lose_still Never (loses_at_split now) step.cleared now step.objects step.lose)) (λ o m. absurd m) h)
+    where
+      now : List Object
+      now = get_older c.generation step.alive v.objects
+
+      alive : (x : Object) → Includes v.objects x → includes step.alive x.serial ≡ true → x.place ≢ Untracked
+      alive x m t = member_tracked v.next_serial Cand v.objects x.serial rises refl (survivor_inside (at Split) Cand x.serial
+          ((step.survivors x.serial).0 (Includes-of step.alive x.serial t))) x m refl
+  phase_slack Turns events after order (inl step) h = to after _ step.yields.1 (turn_taken step.object step.member h)
+  phase_slack Turns events after order (inr step) h = to after _ step.1.1 (goes_to Turns c Ending v.objects same (λ o m. absurd m) h)
+  phase_slack (Turn o) events after order step h = to after _ step.1 (option_either (λ lines. IsSlackWorld) (empties c o below (at (Turn o))) (last_entry (entries_of v.objects o))
+      (λ e. gives (o ∷ []) (Turn o) (AfterTurn o) v.objects same (at_hand (Turn o) h) h)
+      (λ entry e. gives (entry_references entry) (Turn o) (Turn o) (change (with_entries (without_last (entries_of v.objects o))) o v.objects)
+      (shortened_still Never v.next_serial v.objects o rises) (at_hand (Turn o) h) h))
+  phase_slack (AfterTurn o) events after order step h = to after _ step.1 (goes_to (AfterTurn o) c Turns (change (with_place (Gen (older c.generation))) o
+      v.objects) (handed (AfterTurn o) o (inl refl) h) (λ p m. absurd m) h)
+  phase_slack Ending events after order step h = to after _ step.world (moves_slack IsRoot v.next_serial v.objects
       (map (λ x. if is_at Legacy x then with_place (Gen (older c.generation)) x else x) kept) (collecting c Ending ∷ below) below
       (still_trans IsRoot v.objects kept (map (λ x. if is_at Legacy x then with_place (Gen (older c.generation)) x else x) kept)
       (all_saved_still step.keeps v.objects) (spread_still IsRoot Legacy (Gen (older c.generation)) kept refl (older_tracked (older c.generation))))
@@ -291,20 +270,3 @@ module _ (script : Script) (c : Collection) (below : List Activity) (v : World) 
       pop : (d : Death) → Includes (collecting c Ending ∷ below) (Dying d) → Includes below (Dying d)
       pop d (inl e) = cc
       pop d (inr m) = m
-
-  pub phase_slack : (phase : CollectPhase) (events : List Event) (after : World) → HasOrder (at phase) → PhaseStep script c phase below (at phase) events after
-      → IsSlackWorld (at phase) → IsSlackWorld after
-  phase_slack Start events after order step h = start_slack events after step h
-  phase_slack (WeakClearing waiting) events after order step h = weak_clearing_slack waiting events after order step h
-  phase_slack (WeakCalling waiting) events after order step h = to after _ step.1 (weak_calling_slack waiting order h)
-  phase_slack (AfterCallback weak waiting) events after order step h = to after _ step.1 (gives (weak ∷ []) (AfterCallback weak waiting)
-      (AfterRelease weak waiting) v.objects same (at_hand (AfterCallback weak waiting) h) h)
-  phase_slack (AfterRelease weak waiting) events after order step h = to after _ step.1 (after_release_slack weak waiting h)
-  phase_slack Finalizing events after order step h = finalizing_slack events after step h
-  phase_slack (AfterFinalizing o) events after order step h = to after _ step.1 (gives (o ∷ []) (AfterFinalizing o) Finalizing v.objects same (λ p m. absurd m) h)
-  phase_slack Split events after order step h = split_slack events after step h
-  phase_slack Turns events after order step h = turns_slack events after step h
-  phase_slack (Turn o) events after order step h = to after _ step.1 (empties_slack o (last_entry (entries_of v.objects o)) h)
-  phase_slack (AfterTurn o) events after order step h = to after _ step.1 (goes_to (AfterTurn o) c Turns (change (with_place (Gen (older c.generation))) o
-      v.objects) (handed (AfterTurn o) o (inl refl) h) (λ p m. absurd m) h)
-  phase_slack Ending events after order step h = end_reached events after step h

@@ -1,7 +1,7 @@
 -- Commands: an untracked dictionary that gets a value that may be tracked becomes tracked, so untracked objects stay slack.
 use Rattle.std.proofs.Common.{◌≡◌, refl, sym, ◌∙◌, ap, subst, ◌≢◌, ℕ, Bool, true, false, not, ◌&&◌, inl, inr, ◌⊎◌, List, [], ◌∷◌, ◌++◌, Option, Some, None, arith}
 use Rattle.std.specs.Prelude.{◌==◌, ◌||◌, if◌then◌else◌, option_and_then, option_to_list}
-use Rattle.std.proofs.lemmas.Bool.{eqb-true, eq-eqb}
+use Rattle.std.proofs.lemmas.Bool.{eqb-true, eq-eqb, not-false}
 use Rattle.cg_value.specs.declared.Val.{Val}
 use Rattle.cg_value.specs.declared.Entry.{Entry}
 use Rattle.cg_value.specs.declared.Place.{Place}
@@ -10,20 +10,21 @@ use Rattle.cg_value.specs.declared.KindCode.{KindCode}
 use Rattle.cg_value.specs.declared.KindCode.TheVariants.{List as ListKind, Tuple, Dict, Inst, Func, Weak}
 use Rattle.cg_script.specs.declared.Command.{Command}
 use Rattle.cg_graph.specs.Member.{Includes, includes}
-use Rattle.cg_graph.specs.Value.{entry_references, put, reference_in, references}
+use Rattle.cg_graph.specs.Value.{put, reference_in, references}
 use Rattle.cg_graph.specs.Object.{Object, change, first_place, is_tracked, is_tuple, may_be_tracked, object_at, same_place, serials, with_entries, with_place}
 use Rattle.cg_graph.proofs.Members.{either, cases_of, Includes-append_left, Includes-append_right, Includes-append_cases, Includes-map_cases, Includes-of, includes-of, or_left, or_right}
 use Rattle.cg_machine.specs.World.{World}
 use Rattle.cg_machine.specs.Operands.{is_dict, object_of}
-use Rattle.cg_machine.specs.Effects.{Calls, Changes, Collects, Effect, Quits, frozen, may_track, replaced, tracked_by, unfrozen, with_new, Explains}
+use Rattle.cg_machine.specs.Effects.{Changes, Effect, frozen, may_track, replaced, tracked_by, unfrozen, with_new}
 use Rattle.cg_laws.proofs.CommandRefs.{option_held, put_free}
 use Rattle.cg_laws.proofs.Unreferred.{lives_within}
-use Rattle.cg_laws.proofs.Lookups.{at_member, references_of_member, same_object}
+use Rattle.cg_laws.proofs.Lookups.{at_member, same_object}
+use Rattle.cg_laws.proofs.Advances.{fewer_references}
 use Rattle.cg_represents.proofs.Serials.{Rises}
-use Rattle.cg_represents.proofs.Shapes.{IsMutable, Shape, Binds, Makes, Edits, Puts, Shows, Tells, Stays, Sets, Freezes, Unfreezes, StartsFrame, StartsCollection, Ends, Inspects, AsksWhy}
+use Rattle.cg_represents.proofs.Shapes.{IsMutable, Shape, Makes, Edits, Puts, Freezes, Unfreezes, StartsFrame, StartsCollection, Ends, AsksWhy}
 use Rattle.cg_represents.proofs.Places.{place_is}
 use Rattle.cg_promises.proofs.UntrackedStay.{Excused, Fine, StaysOrLoses, IsLoose, IsSlackOne, IsSlackWorld, Slack, Still, loose_later, map_still, moves_slack, test_still}
-use Rattle.cg_promises.proofs.UntrackedStayStart.{may_not, not_true}
+use Rattle.cg_promises.proofs.UntrackedStayStart.{may_not}
 
 -- what a value refers to
 option_holds : (m : Option ℕ) (o : ℕ) → Includes (option_to_list m) o → m ≡ Some o
@@ -48,12 +49,6 @@ put_from entries key v o m =
   where
     values_held : List ℕ
     values_held = option_to_list (reference_in key) ++ option_to_list (reference_in v)
-
--- entries among others have no other references
-references_within : (xs ys : List Entry) → ((e : Entry) → Includes xs e → Includes ys e) → (o : ℕ) → Includes (references xs) o → Includes (references ys) o
-references_within [] ys h o m = absurd m
-references_within (x ∷ xs) ys h o m = either (Includes-append_cases (entry_references x) (references xs) o m) (references_of_member ys x o (h x (inl refl)))
-    (references_within xs ys (λ e k. h e (inr k)) o)
 
 -- kinds that are neither tuples nor dictionaries
 abbrev IsOther : Object → Type 0
@@ -81,23 +76,15 @@ mutable_no_tuple x m = go x.code m
 
 -- only a new dictionary is untracked
 first_dict : (kind : KindCode) → first_place kind ≡ Untracked → kind ≡ Dict
-first_dict ListKind e = absurd (let no : Gen 0 ≡ Untracked = e in cc)
-first_dict Tuple e = absurd (let no : Gen 0 ≡ Untracked = e in cc)
 first_dict Dict e = refl
-first_dict Inst e = absurd (let no : Gen 0 ≡ Untracked = e in cc)
-first_dict Func e = absurd (let no : Gen 0 ≡ Untracked = e in cc)
-first_dict Weak e = absurd (let no : Gen 0 ≡ Untracked = e in cc)
+first_dict k e = absurd (let no : Gen 0 ≡ Untracked = e in cc)
 
 pub dict_no_tuple : (x : Object) → is_dict x ≡ true → ¬ (is_tuple x ≡ true)
 dict_no_tuple x t = go x.code t
   where
     go : (c : KindCode) → (elim c [ Dict ↦ true | _ ↦ false ]) ≡ true → ¬ ((elim c [ ListKind ↦ false | Tuple ↦ true | Dict ↦ false | Inst ↦ false | Func ↦ false | Weak ↦ false ]) ≡ true)
-    go Dict e k = let no : false ≡ true = k in cc
     go Tuple e k = let no : false ≡ true = e in cc
-    go ListKind e k = let no : false ≡ true = k in cc
-    go Inst e k = let no : false ≡ true = k in cc
-    go Func e k = let no : false ≡ true = k in cc
-    go Weak e k = let no : false ≡ true = k in cc
+    go kind e k = let no : false ≡ true = k in cc
 
 frozen_untracked : (p : Place) → frozen p ≡ Untracked → p ≡ Untracked
 frozen_untracked (Gen i) e = absurd (let no : Frozen ≡ Untracked = e in cc)
@@ -112,10 +99,7 @@ module _ (w : World) (rises : Rises 1 w.next_serial w.objects) (live : (x : Obje
     → Includes (serials w.objects) o) (h : IsSlackWorld w) where
   abbrev pub Slacks : Effect → Type 0
   Slacks (Changes wants_memory lines given_up after) = Slack after.next_serial after.objects w.stack
-  Slacks (Calls f) = Unit {0}
-  Slacks (Collects g) = Unit {0}
-  Slacks (Explains o) = Unit {0}
-  Slacks Quits = Unit {0}
+  Slacks effect = Unit {0}
 
   moved : (after : List Object) → Still (Fine w.stack after) w.objects after → Slack w.next_serial after w.stack
   moved after still = moves_slack (Fine w.stack after) w.next_serial w.objects after w.stack w.stack still (λ n k. k) (λ n e. inl e) h.handled h
@@ -163,7 +147,7 @@ module _ (w : World) (rises : Rises 1 w.next_serial w.objects) (live : (x : Obje
       let at : object_of w v ≡ Some z = ap (option_and_then (object_at w.objects)) is ∙ subst (λ n. object_at w.objects n ≡ Some z) s (at_member 1 w.next_serial w.objects z rises m) in
       let no : may_be_tracked z ≡ false = sym (ap (λ (q : Option Object). elim q [ None ↦ false | Some x ↦ may_be_tracked x ]) at) ∙ e in
       let kind = may_not (is_tuple z) (is_tracked z) no in
-      (kind.0, place_is z.place Untracked (not_true (same_place z.place Untracked) kind.1))
+      (kind.0, place_is z.place Untracked (not-false (same_place z.place Untracked) kind.1))
 
   module _ (x : Object) (key v : Val) (m : Includes w.objects x) (no_tuple : ¬ (is_tuple x ≡ true)) where
     abbrev put_in : Object → Object
@@ -275,23 +259,14 @@ module _ (w : World) (rises : Rises 1 w.next_serial w.objects) (live : (x : Obje
       new : (y : Object) → fresh ≡ y → y.place ≡ Untracked → IsSlackOne (w.objects ++ fresh ∷ []) y
       new y e u = subst (IsSlackOne (w.objects ++ fresh ∷ [])) e (new_one (ap (λ (q : Object). q.place) e ∙ u))
 
-  edit_slack : (x : Object) (entries : List Entry) → Includes w.objects x → IsMutable x.code → (x.code ≢ ListKind → (e : Entry) → Includes entries e
-      → Includes x.entries e) → Slack w.next_serial (change (with_entries entries) x.serial w.objects) w.stack
-  edit_slack x entries m mutable adds = either (mutable_other x mutable) (λ other. other_slack x entries m other) (λ no. fewer_slack x entries m (references_within entries x.entries (adds no)))
-
   pub shape_slack : (command : Command) (e : Effect) → Shape w command e → Slacks e
-  shape_slack command e (Binds name v own hand) = h
   shape_slack command e (Makes name kind class entries referent own parts) = made_slack kind class entries referent (λ u. let d = first_dict kind u in (d, parts.bare d))
-  shape_slack command e (Edits wants x entries given k mutable edit) = edit_slack x entries k.member mutable edit.adds
+  shape_slack command e (Edits wants x entries given k mutable edit) = either (mutable_other x mutable) (λ other. other_slack x entries k.member other) (λ no. fewer_slack x entries k.member (fewer_references entries x.entries (edit.adds no)))
   shape_slack command e (Puts x key v k mutable hand_key hand room) = put_slack x key v k.member (mutable_no_tuple x mutable)
-  shape_slack command e (Shows v hand) = h
-  shape_slack command e (Tells line tells) = h
-  shape_slack command e Stays = h
-  shape_slack command e (Sets numbers own keeps) = h
   shape_slack command e (Freezes is) = places_slack frozen refl frozen_untracked
   shape_slack command e (Unfreezes is) = places_slack unfrozen refl unfrozen_untracked
   shape_slack command e (StartsFrame f k) = tt
   shape_slack command e (StartsCollection g low) = tt
   shape_slack command e Ends = tt
-  shape_slack command e (Inspects lines calm there) = h
   shape_slack command e (AsksWhy x k calm) = tt
+  shape_slack command e shape = h

@@ -1,8 +1,7 @@
 -- Releases, deaths and the end of a frame: untracked objects stay slack.
-use Rattle.std.proofs.Common.{◌≡◌, ◌≢◌, refl, sym, ◌∙◌, ap, subst, ℕ, Bool, true, false, not, ◌&&◌, inl, inr, List, [], ◌∷◌, ◌++◌, Option, Some, None}
+use Rattle.std.proofs.Common.{◌≡◌, ◌≢◌, refl, sym, ◌∙◌, ap, subst, ℕ, Bool, true, false, not, inl, inr, List, [], ◌∷◌, ◌++◌, Option, Some, None}
 use Rattle.std.specs.Prelude.{◌==◌, if◌then◌else◌, is_some, option_and_then, option_to_list, slice_get, unwrap_or}
 use Rattle.std.proofs.lemmas.Bool.{eqb-true}
-use Rattle.cg_value.specs.declared.Entry.{Entry}
 use Rattle.cg_value.specs.declared.KindCode.{KindCode}
 use Rattle.cg_value.specs.declared.KindCode.TheVariants.{List as ListKind, Tuple, Dict, Inst, Func, Weak}
 use Rattle.cg_value.specs.declared.Place.TheVariants.{Untracked, Gen}
@@ -11,17 +10,15 @@ use Rattle.cg_graph.specs.Member.{Includes}
 use Rattle.cg_graph.specs.Value.{entry_references, last_entry, references, without_last}
 use Rattle.cg_graph.specs.Object.{Object, change, is_tuple, object_at, entries_of, marked, serials, with_entries, with_place, with_referent, without}
 use Rattle.cg_graph.proofs.Members.{either, Includes-map, Includes-filter_cases}
-use Rattle.cg_machine.specs.declared.event.Event.TheVariants.{Alive}
 use Rattle.cg_machine.specs.declared.event.FrameSort.{FrameSort}
 use Rattle.cg_machine.specs.declared.event.FrameSort.TheVariants.{Del, Legacy, Callback, Call}
 use Rattle.cg_machine.specs.Program.{class_number, class_of, classes, finalizer_of, legacy_of}
 use Rattle.cg_machine.specs.World.{World, Activity, Framed, Releasing, Dying, Death, Frame, DyingPhase, Finalizer, AfterFinalizer, Clearing, Calling, AfterCall, LegacyFinalizer, AfterLegacy, Detaching, Emptying, with_stack, with_change}
-use Rattle.cg_machine.specs.Holdings.{in_degree, is_dying}
-use Rattle.cg_machine.specs.Frame.{frame_end, gives_up_function, begin_death, released, procedure_of}
+use Rattle.cg_machine.specs.Frame.{frame_end, gives_up_function, released, procedure_of}
 use Rattle.cg_machine.specs.Weak.{has_weak_references, weak_references_if, loses_referent, callback_of}
 use Rattle.cg_represents.specs.Orderly.{runs_own_frame}
-use Rattle.cg_machine.specs.Dying.{death_at, has_finalizers, finalizer_to_run, run_finalizer, run_legacy, after_frame, clear_one, call_one, detach_one, empty_one, dying}
-use Rattle.cg_laws.proofs.Starting.{either_way}
+use Rattle.cg_machine.specs.Dying.{death_at, has_finalizers, finalizer_to_run, run_finalizer, run_legacy, after_frame, clear_one, detach_one, empty_one, dying}
+use Rattle.cg_laws.proofs.Starting.{release_either, own_frame_either, option_either, list_either}
 use Rattle.cg_represents.proofs.Serials.{Rises}
 use Rattle.cg_laws.proofs.Lookups.{at_member, references_take}
 use Rattle.cg_laws.proofs.LinesNameLive.{changed_all, without_gone}
@@ -34,11 +31,7 @@ tuple_code x t = go x.code t
   where
     go : (c : KindCode) → (elim c [ ListKind ↦ false | Tuple ↦ true | Dict ↦ false | Inst ↦ false | Func ↦ false | Weak ↦ false ]) ≡ true → c ≡ Tuple
     go Tuple e = refl
-    go ListKind e = absurd (let no : false ≡ true = e in cc)
-    go Dict e = absurd (let no : false ≡ true = e in cc)
-    go Inst e = absurd (let no : false ≡ true = e in cc)
-    go Func e = absurd (let no : false ≡ true = e in cc)
-    go Weak e = absurd (let no : false ≡ true = e in cc)
+    go k e = absurd (let no : false ≡ true = e in cc)
 
 no_class : (script : Script) (x : Object) → is_tuple x ≡ true → class_of script x ≡ None
 no_class script x t = ap (λ (c : KindCode). option_and_then (λ k. slice_get (classes script.items) k) (class_number c x.class)) (tuple_code x t)
@@ -75,25 +68,20 @@ frame_end_slack f below v h = by_sort f.sort f.function
     rest = end_slack v.next_serial (Framed f) below v.objects (λ d e. cc) h
 
     by_sort : (sort : FrameSort) (function : Option ℕ) → IsSlackWorld (gives_up_function sort function (with_stack below v))
-    by_sort Del function = rest
-    by_sort Legacy function = rest
-    by_sort Callback function = rest
     by_sort Call function = push_slack v.next_serial (Releasing (option_to_list function)) below v.objects (λ c e. cc) rest
+    by_sort sort function = rest
 
 pub released_slack : (references : List ℕ) (below : List Activity) (v : World) → IsSlackWorld (with_stack (Releasing references ∷ below) v)
     → IsSlackWorld (released references below (with_stack (Releasing references ∷ below) v)).1
 released_slack [] below v h = end_slack v.next_serial (Releasing []) below v.objects (λ d e. cc) h
-released_slack (o ∷ refs) below v h = either_way (λ lines. IsSlackWorld) (not (is_dying now o) && (in_degree now o == 0)) ([], begin_death o now) ([], now)
-    (moves_slack (λ n. n ≡ o) v.next_serial v.objects (change dead o v.objects) (Releasing (o ∷ refs) ∷ below) (death ∷ Releasing refs ∷ below)
+released_slack (o ∷ refs) below v h = release_either (λ lines. IsSlackWorld) o refs below v
+    (λ t. moves_slack (λ n. n ≡ o) v.next_serial v.objects (change dead o v.objects) (Releasing (o ∷ refs) ∷ below) (death ∷ Releasing refs ∷ below)
     (test_still (λ n. n ≡ o) dead (λ x. x.serial == o) v.objects (λ x m t. record { stays = record { serial = refl; code = refl; untracked = λ a u. refl }; loses = inl (eqb-true x.serial o t) }))
     (λ n e. inl (inr (record { object = o; phase = Finalizer }, inl refl, sym e, refl)))
     (excused_on (Releasing (o ∷ refs) ∷ below) (death ∷ Releasing refs ∷ below) (change dead o v.objects) (λ d m. either m (λ e. cc) (λ k. inr (inr k))))
     (λ c m. either m (λ e. cc) (λ k. either k (λ e. cc) (λ i. h.handled c (inr i)))) h)
-    (turn_slack Never v.next_serial (Releasing (o ∷ refs)) (Releasing refs) below v.objects v.objects (still_same Never v.objects) (λ n no. absurd no) (λ d e. cc) (λ c e. cc) h)
+    (λ t. turn_slack Never v.next_serial (Releasing (o ∷ refs)) (Releasing refs) below v.objects v.objects (still_same Never v.objects) (λ n no. absurd no) (λ d e. cc) (λ c e. cc) h)
   where
-    now : World
-    now = with_stack (Releasing refs ∷ below) v
-
     dead : Object → Object
     dead x = with_referent None (with_place Untracked x)
 
@@ -146,69 +134,54 @@ module _ (script : Script) (o : ℕ) (below : List Activity) (v : World) (rises 
       }))
       (λ n no. absurd no) (λ r. inr (λ y m e u. absurd (changed_all (λ z. z.place ≢ Untracked) f o v.objects (λ x k. let no : Gen 0 ≡ Untracked = sym (place x) ∙ k in cc) y m e u))) h
 
-  finalizer_slack : (m : Option ℕ) → option_and_then (finalizer_to_run script) (object_at v.objects o) ≡ m → IsSlackWorld (at Finalizer)
-      → IsSlackWorld (run_finalizer script o below (at Finalizer) m).1
-  finalizer_slack None e h = goes_to Finalizer (Clearing []) v.objects same refl h
-  finalizer_slack (Some p) e h = starts_slack script (record { sort = Del; proc = p; subject = o; func = None })
-      (death_at o AfterFinalizer below (with_change (λ x. marked (with_place (Gen 0) x)) o (at Finalizer)))
-      (revived (λ x. marked (with_place (Gen 0) x)) Finalizer AfterFinalizer (no_tuple (finalizer_to_run script) v.next_serial v.objects o p rises
-      (no_finalizer script) e) (λ x. refl) (λ x. refl) (λ x. refl) h)
-
-  legacy_slack : (m : Option ℕ) → option_and_then (legacy_of script) (object_at v.objects o) ≡ m → IsSlackWorld (at LegacyFinalizer) → IsSlackWorld (run_legacy script o below (at LegacyFinalizer) m).1
-  legacy_slack None e h = goes_to LegacyFinalizer Detaching v.objects same refl h
-  legacy_slack (Some p) e h = starts_slack script (record { sort = Legacy; proc = p; subject = o; func = None })
-      (death_at o AfterLegacy below (with_change (with_place (Gen 0)) o (at LegacyFinalizer)))
-      (revived (with_place (Gen 0)) LegacyFinalizer AfterLegacy (no_tuple (legacy_of script) v.next_serial v.objects o p rises (no_legacy script) e) (λ x. refl) (λ x. refl) (λ x. refl) h)
-
   -- a death gives up its own hold
   after_frame_slack : (phase next : DyingPhase) → runs_own_frame phase ≡ true → runs_own_frame next ≡ false → IsSlackWorld (at phase) → IsSlackWorld (after_frame o next below (at phase)).1
-  after_frame_slack phase next own e h = either_way (λ lines. IsSlackWorld) (in_degree (at next) o == 0) ([], with_change (with_place Untracked) o (at next))
-      (Alive o ∷ [], with_stack below (at phase))
-      (death_slack (λ n. n ≡ o) phase next (change (with_place Untracked) o v.objects) (test_still (λ n. n ≡ o) (with_place Untracked) (λ x. x.serial == o)
+  after_frame_slack phase next own e h = own_frame_either (λ lines. IsSlackWorld) o next below (at phase)
+      (λ t. death_slack (λ n. n ≡ o) phase next (change (with_place Untracked) o v.objects) (test_still (λ n. n ≡ o) (with_place Untracked) (λ x. x.serial == o)
       v.objects (λ x m t. record { stays = record { serial = refl; code = refl; untracked = λ a u. refl }; loses = inl (eqb-true x.serial o t) }))
       (λ n i. subst (Fine (dying_now next ∷ below) (change (with_place Untracked) o v.objects)) (sym i) (fades next (change (with_place Untracked) o v.objects)
       e)) (λ r. fades next (change (with_place Untracked) o v.objects) e) h)
-      (moves_slack Never v.next_serial v.objects v.objects (dying_now phase ∷ below) below same (λ n no. absurd no) (excused_here phase below v.objects
+      (λ t. moves_slack Never v.next_serial v.objects v.objects (dying_now phase ∷ below) below same (λ n no. absurd no) (excused_here phase below v.objects
       (λ d m. m) (λ r. absurd (let no : true ≡ false = sym own ∙ r in cc))) (λ c m. h.handled c (inr m)) h)
 
-  clearing_slack : (waiting weaks : List ℕ) → IsSlackWorld (at (Clearing waiting)) → IsSlackWorld (clear_one o waiting below (at (Clearing waiting)) weaks).1
-  clearing_slack waiting [] h = goes_to (Clearing waiting) (Calling waiting) v.objects same refl h
-  clearing_slack waiting (weak ∷ weaks) h = goes_to (Clearing waiting) (Clearing (waiting ++ (if is_some (callback_of v.objects weak) then weak ∷ [] else [])))
-      (loses_referent weak v.objects) (lost_still Never weak v.objects) refl h
-
-  calling_slack : (waiting : List ℕ) → IsSlackWorld (at (Calling waiting)) → IsSlackWorld (call_one script o below (at (Calling waiting)) waiting).1
-  calling_slack [] h = goes_to (Calling []) LegacyFinalizer v.objects same refl h
-  calling_slack (weak ∷ waiting) h =
+  pub dying_slack : (phase : DyingPhase) → IsSlackWorld (at phase) → IsSlackWorld (dying script o phase below (at phase)).1
+  dying_slack Finalizer h = option_either (λ lines. IsSlackWorld) (run_finalizer script o below (at Finalizer)) (option_and_then (finalizer_to_run script) (object_at v.objects o))
+      (λ e. goes_to Finalizer (Clearing []) v.objects same refl h)
+      (λ p e. starts_slack script (record { sort = Del; proc = p; subject = o; func = None })
+      (death_at o AfterFinalizer below (with_change (λ x. marked (with_place (Gen 0) x)) o (at Finalizer)))
+      (revived (λ x. marked (with_place (Gen 0) x)) Finalizer AfterFinalizer (no_tuple (finalizer_to_run script) v.next_serial v.objects o p rises
+      (no_finalizer script) e) (λ x. refl) (λ x. refl) (λ x. refl) h))
+  dying_slack AfterFinalizer h = after_frame_slack AfterFinalizer (Clearing []) refl refl h
+  dying_slack (Clearing waiting) h = list_either (λ lines. IsSlackWorld) (clear_one o waiting below (at (Clearing waiting))) (weak_references_if has_weak_references v.objects o)
+      (λ e. goes_to (Clearing waiting) (Calling waiting) v.objects same refl h)
+      (λ weak weaks e. goes_to (Clearing waiting) (Clearing (waiting ++ (if is_some (callback_of v.objects weak) then weak ∷ [] else [])))
+      (loses_referent weak v.objects) (lost_still Never weak v.objects) refl h)
+  dying_slack (Calling []) h = goes_to (Calling []) LegacyFinalizer v.objects same refl h
+  dying_slack (Calling (weak ∷ waiting)) h =
       let callback = unwrap_or (callback_of v.objects weak) 0 in
       starts_slack script (record { sort = Callback; proc = procedure_of (at (Calling (weak ∷ waiting))) callback; subject = weak; func = Some callback })
       (death_at o (AfterCall weak callback waiting) below (with_change (with_entries []) weak (at (Calling (weak ∷ waiting)))))
       (goes_to (Calling (weak ∷ waiting)) (AfterCall weak callback waiting) (change (with_entries []) weak v.objects)
       (test_still Never (with_entries []) (λ x. x.serial == weak) v.objects
       (λ x m t. record { stays = record { serial = refl; code = refl; untracked = λ a u. u }; loses = inr (λ u. (u, λ r i. absurd i)) })) refl h)
-
-  detaching_slack : (weaks : List ℕ) → IsSlackWorld (at Detaching) → IsSlackWorld (detach_one o below (at Detaching) weaks).1
-  detaching_slack [] h = goes_to Detaching Emptying v.objects same refl h
-  detaching_slack (weak ∷ weaks) h = goes_to Detaching Detaching (loses_referent weak v.objects) (lost_still Never weak v.objects) refl h
-
-  emptying_slack : (m : Option Entry) → IsSlackWorld (at Emptying) → IsSlackWorld (empty_one o below (at Emptying) m).1
-  emptying_slack None h = moves_slack Never v.next_serial v.objects (without o v.objects) (dying_now Emptying ∷ below) below
+  dying_slack (AfterCall weak callback waiting) h = push_slack v.next_serial (Releasing (callback ∷ weak ∷ [])) (dying_now (Calling waiting) ∷ below) v.objects
+      (λ c e. cc) (goes_to (AfterCall weak callback waiting) (Calling waiting) v.objects same refl h)
+  dying_slack LegacyFinalizer h = option_either (λ lines. IsSlackWorld) (run_legacy script o below (at LegacyFinalizer)) (option_and_then (legacy_of script) (object_at v.objects o))
+      (λ e. goes_to LegacyFinalizer Detaching v.objects same refl h)
+      (λ p e. starts_slack script (record { sort = Legacy; proc = p; subject = o; func = None })
+      (death_at o AfterLegacy below (with_change (with_place (Gen 0)) o (at LegacyFinalizer)))
+      (revived (with_place (Gen 0)) LegacyFinalizer AfterLegacy (no_tuple (legacy_of script) v.next_serial v.objects o p rises (no_legacy script) e) (λ x. refl) (λ x. refl) (λ x. refl) h))
+  dying_slack AfterLegacy h = after_frame_slack AfterLegacy Detaching refl refl h
+  dying_slack Detaching h = list_either (λ lines. IsSlackWorld) (detach_one o below (at Detaching)) (weak_references_if (has_finalizers script) v.objects o)
+      (λ e. goes_to Detaching Emptying v.objects same refl h)
+      (λ weak weaks e. goes_to Detaching Detaching (loses_referent weak v.objects) (lost_still Never weak v.objects) refl h)
+  dying_slack Emptying h = option_either (λ lines. IsSlackWorld) (empty_one o below (at Emptying)) (last_entry (entries_of v.objects o))
+      (λ is. moves_slack Never v.next_serial v.objects (without o v.objects) (dying_now Emptying ∷ below) below
       (λ y m. (y, (Includes-filter_cases (λ x. not (x.serial == o)) v.objects y m).0, goes_same Never y)) (λ n no. absurd no)
       (excused_here Emptying below (without o v.objects) (λ d m. m)
       (λ r. inr (λ y m e u. absurd (without_gone o v.objects (subst (Includes (serials (without o v.objects))) e (Includes-map (λ (z : Object). z.serial)
       (without o v.objects) y m))))))
-      (λ c m. h.handled c (inr m)) h
-  emptying_slack (Some entry) h = push_slack v.next_serial (Releasing (entry_references entry)) (dying_now Emptying ∷ below)
+      (λ c m. h.handled c (inr m)) h)
+      (λ entry is. push_slack v.next_serial (Releasing (entry_references entry)) (dying_now Emptying ∷ below)
       (change (with_entries (without_last (entries_of v.objects o))) o v.objects) (λ c e. cc)
-      (goes_to Emptying Emptying (change (with_entries (without_last (entries_of v.objects o))) o v.objects) (shortened_still Never v.next_serial v.objects o rises) refl h)
-
-  pub dying_slack : (phase : DyingPhase) → IsSlackWorld (at phase) → IsSlackWorld (dying script o phase below (at phase)).1
-  dying_slack Finalizer h = finalizer_slack (option_and_then (finalizer_to_run script) (object_at v.objects o)) refl h
-  dying_slack AfterFinalizer h = after_frame_slack AfterFinalizer (Clearing []) refl refl h
-  dying_slack (Clearing waiting) h = clearing_slack waiting (weak_references_if has_weak_references v.objects o) h
-  dying_slack (Calling waiting) h = calling_slack waiting h
-  dying_slack (AfterCall weak callback waiting) h = push_slack v.next_serial (Releasing (callback ∷ weak ∷ [])) (dying_now (Calling waiting) ∷ below) v.objects
-      (λ c e. cc) (goes_to (AfterCall weak callback waiting) (Calling waiting) v.objects same refl h)
-  dying_slack LegacyFinalizer h = legacy_slack (option_and_then (legacy_of script) (object_at v.objects o)) refl h
-  dying_slack AfterLegacy h = after_frame_slack AfterLegacy Detaching refl refl h
-  dying_slack Detaching h = detaching_slack (weak_references_if (has_finalizers script) v.objects o) h
-  dying_slack Emptying h = emptying_slack (last_entry (entries_of v.objects o)) h
+      (goes_to Emptying Emptying (change (with_entries (without_last (entries_of v.objects o))) o v.objects) (shortened_still Never v.next_serial v.objects o rises) refl h))

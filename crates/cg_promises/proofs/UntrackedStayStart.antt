@@ -2,6 +2,7 @@
 use Rattle.std.proofs.Common.{◌≡◌, refl, sym, ◌∙◌, ap, subst, ℕ, Bool, true, false, not, ◌&&◌, inl, inr, ◌⊎◌, List, [], ◌∷◌, map, Some}
 use Rattle.std.specs.Prelude.{◌==◌, ◌||◌, nat_le, if◌then◌else◌, option_map, unwrap_or}
 use Rattle.std.specs.List.{list_any}
+use Rattle.std.proofs.lemmas.Bool.{not-true, not-false}
 use Rattle.cg_value.specs.declared.Place.{Place}
 use Rattle.cg_value.specs.declared.Place.TheVariants.{Untracked, Gen, Cand, Legacy}
 use Rattle.cg_script.specs.declared.Script.{Script}
@@ -16,15 +17,8 @@ use Rattle.cg_represents.proofs.Serials.{Rises, Rises-map}
 use Rattle.cg_laws.proofs.Lookups.{at_member, same_object}
 use Rattle.cg_represents.proofs.Places.{place_is}
 use Rattle.cg_laws.proofs.SetsApart.{is_tracked_at}
+use Rattle.cg_laws.proofs.CollectionStarts.{serial_same}
 use Rattle.cg_promises.proofs.UntrackedStay.{IsLoose, IsSlackOne, Still, map_still, test_still}
-
-pub not_true : (b : Bool) → not b ≡ false → b ≡ true
-not_true true e = refl
-not_true false e = sym e
-
-pub not_false : (b : Bool) → not b ≡ true → b ≡ false
-not_false true e = sym e
-not_false false e = refl
 
 -- none of a list passes
 any_of : (f : ℕ → Bool) (xs : List ℕ) (x : ℕ) → Includes xs x → f x ≡ true → list_any f xs ≡ true
@@ -58,10 +52,6 @@ same_dict false x = refl
 same_none : (objects : List Object) (b : Bool) (x : Object) → has_none_tracked objects (untracked_if b x) ≡ has_none_tracked objects x
 same_none objects true x = refl
 same_none objects false x = refl
-
-same_serial : (b : Bool) (x : Object) → (untracked_if b x).serial ≡ x.serial
-same_serial true x = refl
-same_serial false x = refl
 
 pub may_not : (a b : Bool) → (if a then b else true) ≡ false → (a ≡ true) × (b ≡ false)
 may_not true b e = (refl, e)
@@ -97,12 +87,9 @@ module _ (script : Script) (g : ℕ) (w : World) (chosen : Object → Bool) (pla
   abbrev IsBare : Object → Type 0
   IsBare x = ((is_tuple x ≡ true) ⊎ (is_dict x ≡ true)) × (has_none_tracked passed x ≡ true)
 
-  bare_tuple : (x : Object) → Includes (objects_at w.objects (Gen g)) x → chosen x ≡ true → IsBare x
-  bare_tuple x m k = let parts = true_and (is_tuple x) (has_none_tracked passed x) (sorts.tuples.at_most x m k).1 in (inl parts.0, parts.1)
-
   untracked_bare : (c : Bool) (x : Object) → Includes (objects_at w.objects (Gen g)) x → is_at (Gen g) x ≡ true → chosen x ≡ c → not (is_tracked (untracked_if c x)) ≡ true → IsBare x
-  untracked_bare true x m t k e = bare_tuple x m k
-  untracked_bare false x m t k e = absurd (is_tracked_at (Gen g) x refl t (place_is x.place Untracked (not_true (same_place x.place Untracked) (not_false (is_tracked x) e))))
+  untracked_bare true x m t k e = let parts = true_and (is_tuple x) (has_none_tracked passed x) (sorts.tuples.at_most x m k).1 in (inl parts.0, parts.1)
+  untracked_bare false x m t k e = absurd (is_tracked_at (Gen g) x refl t (place_is x.place Untracked (not-false (same_place x.place Untracked) (not-true (is_tracked x) e))))
 
   bare : (x : Object) → Includes (objects_at w.objects (Gen g)) x → is_at (Gen g) x ≡ true → places x ≡ Untracked → IsBare x
   bare x m t u = either (true_or (not (is_tracked (untracked_if (chosen x) x))) ((g == 2) && is_dict (untracked_if (chosen x) x) && has_none_tracked passed (untracked_if (chosen x) x)) (passes x m u))
@@ -114,11 +101,11 @@ module _ (script : Script) (g : ℕ) (w : World) (chosen : Object → Bool) (pla
   -- what it refers to is an untracked tuple afterwards
   placed : (b c : Bool) (x : Object) → Includes w.objects x → is_at (Gen g) x ≡ b → chosen x ≡ c → is_tracked (untracked_if (b && c) x) ≡ false
       → (if b then with_place (places x) x else x).place ≡ Untracked
-  placed false c x m t k u = place_is x.place Untracked (not_true (same_place x.place Untracked) u)
+  placed false c x m t k u = place_is x.place Untracked (not-false (same_place x.place Untracked) u)
   placed true true x m t k u =
       let member = Includes-filter (is_at (Gen g)) w.objects x t m in
       sorts.survivors x member (sorts.tuples.at_most x member k).0 ∙ ap (λ d. survivor_place g passed (untracked_if d x)) k
-  placed true false x m t k u = absurd (is_tracked_at (Gen g) x refl t (place_is x.place Untracked (not_true (same_place x.place Untracked) u)))
+  placed true false x m t k u = absurd (is_tracked_at (Gen g) x refl t (place_is x.place Untracked (not-false (same_place x.place Untracked) u)))
 
   sorted_tuple : (b : Bool) (x : Object) → is_tuple (if b then with_place (places x) x else x) ≡ is_tuple x
   sorted_tuple true x = refl
@@ -133,9 +120,9 @@ module _ (script : Script) (g : ℕ) (w : World) (chosen : Object → Bool) (pla
   loose_at o x m s e =
       let b = is_at (Gen g) x && chosen x in
       let z = untracked_if b x in
-      let serial : z.serial ≡ o = same_serial b x ∙ s in
+      let serial : z.serial ≡ o = serial_same b x ∙ s in
       let at : object_at passed o ≡ Some z = subst (λ n. object_at passed n ≡ Some z) serial
-      (at_member 1 next passed z (Rises-map (λ y. untracked_if (is_at (Gen g) y && chosen y) y) (λ y. same_serial (is_at (Gen g) y && chosen y) y) 1 next
+      (at_member 1 next passed z (Rises-map (λ y. untracked_if (is_at (Gen g) y && chosen y) y) (λ y. serial_same (is_at (Gen g) y && chosen y) y) 1 next
       w.objects rises) (Includes-map (λ y. untracked_if (is_at (Gen g) y && chosen y) y) w.objects x m)) in
       let kind = may_not (is_tuple z) (is_tracked z) (sym (ap (λ q. unwrap_or (option_map may_be_tracked q) false) at) ∙ e) in
       (sym (same_tuple b x) ∙ kind.0, placed (is_at (Gen g) x) (chosen x) x m refl refl kind.1)
@@ -143,7 +130,7 @@ module _ (script : Script) (g : ℕ) (w : World) (chosen : Object → Bool) (pla
   not_tracked : (x : Object) (o : ℕ) → has_none_tracked passed x ≡ true → Includes (references x.entries) o → unwrap_or (option_map may_be_tracked (object_at passed o)) false ≡ false
   not_tracked x o e m = either (cases_of (unwrap_or (option_map may_be_tracked (object_at passed o)) false))
       (λ t. absurd (let all = any_of (λ n. unwrap_or (option_map may_be_tracked (object_at passed n)) false) (references x.entries) o m t in let no : true
-      ≡ false = sym all ∙ not_false (list_any (λ n. unwrap_or (option_map may_be_tracked (object_at passed n)) false) (references x.entries)) e
+      ≡ false = sym all ∙ not-true (list_any (λ n. unwrap_or (option_map may_be_tracked (object_at passed n)) false) (references x.entries)) e
       in cc)) (λ f. f)
 
   loose : (x : Object) (o : ℕ) → has_none_tracked passed x ≡ true → Includes (references x.entries) o → IsLoose after o

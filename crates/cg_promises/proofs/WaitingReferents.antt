@@ -22,13 +22,13 @@ use Rattle.cg_laws.proofs.Advancing.{frame_end_advances, released_advances, dyin
 use Rattle.cg_laws.proofs.UnheldRuns.{no_death}
 use Rattle.cg_laws.proofs.ShapeLaws.{changes_leave}
 use Rattle.cg_laws.proofs.Invariants.{CommandSteps, HasCommands, Steps, any_step, emptied, on}
-use Rattle.cg_laws.proofs.LinesNameLive.{reversed_back}
+use Rattle.cg_laws.proofs.MeasureInDeaths.{Includes-reverse}
 
 -- an object is a weak reference to another now
 abbrev pub RefersNow : List Object → ℕ → ℕ → Type 0
 RefersNow objects weak o = (x : Object) × Includes objects x × (x.serial ≡ weak) × (x.referent ≡ Some o)
 
-refers_now : (test : Object → Bool) (objects : List Object) (o weak : ℕ) (weaks : List ℕ) → weak_references_if test objects o ≡ weak ∷ weaks → RefersNow objects weak o
+pub refers_now : (test : Object → Bool) (objects : List Object) (o weak : ℕ) (weaks : List ℕ) → weak_references_if test objects o ≡ weak ∷ weaks → RefersNow objects weak o
 refers_now test objects o weak weaks e = go (unwrap_or (option_map test (object_at objects o)) false) e
   where
     refers : (r : Option ℕ) → unwrap_or (option_map (λ s. s == o) r) false ≡ true → r ≡ Some o
@@ -37,7 +37,7 @@ refers_now test objects o weak weaks e = go (unwrap_or (option_map test (object_
 
     go : (b : Bool) → (if b then weak_references objects o else []) ≡ weak ∷ weaks → RefersNow objects weak o
     go true k =
-        let m = reversed_back (serials (filter (is_reference_to o) objects)) weak (subst (λ ys. Includes ys weak) (sym k) (inl refl)) in
+        let m = Includes-reverse (serials (filter (is_reference_to o) objects)) weak (subst (λ ys. Includes ys weak) (sym k) (inl refl)) in
         let x = Includes-map_cases (λ (z : Object). z.serial) (filter (is_reference_to o) objects) weak m in
         let f = Includes-filter_cases (is_reference_to o) objects x.0 x.1 in
         (x.0, f.0, x.2, refers x.0.referent f.1)

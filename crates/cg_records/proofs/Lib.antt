@@ -6,3 +6,4 @@ pub mod Read
 pub mod SmallNumbers
 pub mod Sound
 pub mod Spelled
+pub mod Runs

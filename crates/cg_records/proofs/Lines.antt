@@ -1,5 +1,5 @@
 -- No two lines share a text, whatever follows them.
-use Rattle.std.proofs.Common.{◌≡◌, ◌≢◌, ℕ, zero, suc, ◌^◌, ◌<◌, ◌≤◌, List, [], ◌∷◌, ◌++◌, length, get_or, Bool, true, false, cond, ◌==◌, refl, sym, ap, ◌∙◌, arith, append_assoc}
+use Rattle.std.proofs.Common.{◌≡◌, ◌≢◌, ℕ, ◌^◌, ◌<◌, ◌≤◌, List, [], ◌∷◌, ◌++◌, length, get_or, Bool, true, false, cond, ◌==◌, refl, sym, ap, ◌∙◌, arith, append_assoc}
 use Rattle.std.specs.Prelude.{decimal}
 use Rattle.std.proofs.lemmas.List.{append_cancel_left}
 use Rattle.cg_records.specs.declared.line.Word.{Word}
@@ -21,15 +21,7 @@ word_at bytes =
 word_at-word_text : (w : Word) (rest : List ℕ) → word_at (word_text w ++ rest) ≡ w
 unfolding word_at
 word_at-word_text words.Record rest = refl
-word_at-word_text words.First rest = refl
-word_at-word_text words.Second rest = refl
-word_at-word_text words.Member rest = refl
-word_at-word_text words.Reference rest = refl
-word_at-word_text words.Lost rest = refl
-word_at-word_text words.Legacy rest = refl
-word_at-word_text words.Cut rest = refl
-word_at-word_text words.Stop rest = refl
-word_at-word_text words.End rest = refl
+word_at-word_text word rest = refl
 
 -- no word's text is a prefix of another's
 pub one_word : (v w : Word) (x y : List ℕ) → word_text v ++ x ≡ word_text w ++ y → (v ≡ w) × (x ≡ y)
@@ -39,15 +31,11 @@ one_word v w x y e =
 
 numbers_of : Line → List ℕ
 numbers_of (lines.Record g) = g ∷ []
-numbers_of lines.First = []
-numbers_of lines.Second = []
 numbers_of (lines.Member serial degree legacy) = serial ∷ degree ∷ mark_of legacy ∷ []
 numbers_of (lines.Reference n) = n ∷ []
 numbers_of (lines.Lost n) = n ∷ []
 numbers_of (lines.Legacy n) = n ∷ []
-numbers_of lines.Cut = []
-numbers_of lines.Stop = []
-numbers_of lines.End = []
+numbers_of line = []
 
 -- numbers separated by spaces, up to the end of the line
 abbrev ended : List ℕ → List ℕ
@@ -58,15 +46,7 @@ ended (n ∷ m ∷ ns) = decimal n ++ 32 ∷ ended (m ∷ ns)
 numbers_text-is : (l : Line) → numbers_text l ≡ ended (numbers_of l)
 unfolding numbers_of
 numbers_text-is (lines.Record g) = refl
-numbers_text-is lines.First = refl
-numbers_text-is lines.Second = refl
-numbers_text-is (lines.Member serial degree legacy) = refl
-numbers_text-is (lines.Reference n) = refl
-numbers_text-is (lines.Lost n) = refl
-numbers_text-is (lines.Legacy n) = refl
-numbers_text-is lines.Cut = refl
-numbers_text-is lines.Stop = refl
-numbers_text-is lines.End = refl
+numbers_text-is line = refl
 
 line_of : Word → List ℕ → Line
 line_of words.Record ns = lines.Record (get_or ns 0 0)
@@ -82,43 +62,23 @@ line_of words.End ns = lines.End
 
 line_of-parts : (l : Line) → line_of (word_of l) (numbers_of l) ≡ l
 unfolding line_of numbers_of
-line_of-parts (lines.Record g) = refl
-line_of-parts lines.First = refl
-line_of-parts lines.Second = refl
 line_of-parts (lines.Member serial degree true) = refl
 line_of-parts (lines.Member serial degree false) = refl
-line_of-parts (lines.Reference n) = refl
-line_of-parts (lines.Lost n) = refl
-line_of-parts (lines.Legacy n) = refl
-line_of-parts lines.Cut = refl
-line_of-parts lines.Stop = refl
-line_of-parts lines.End = refl
+line_of-parts line = refl
 
 -- the number of numbers after a word
 arity : Word → ℕ
 arity words.Record = 1
-arity words.First = 0
-arity words.Second = 0
 arity words.Member = 3
 arity words.Reference = 1
 arity words.Lost = 1
 arity words.Legacy = 1
-arity words.Cut = 0
-arity words.Stop = 0
-arity words.End = 0
+arity word = 0
 
 length-numbers_of : (l : Line) → length (numbers_of l) ≡ arity (word_of l)
 unfolding arity numbers_of
 length-numbers_of (lines.Record g) = refl
-length-numbers_of lines.First = refl
-length-numbers_of lines.Second = refl
-length-numbers_of (lines.Member serial degree legacy) = refl
-length-numbers_of (lines.Reference n) = refl
-length-numbers_of (lines.Lost n) = refl
-length-numbers_of (lines.Legacy n) = refl
-length-numbers_of lines.Cut = refl
-length-numbers_of lines.Stop = refl
-length-numbers_of lines.End = refl
+length-numbers_of line = refl
 
 abbrev AreSmall : List ℕ → Type 0
 AreSmall [] = Unit {0}
@@ -131,30 +91,23 @@ mark_small false = omega arith
 are_small : (l : Line) → IsLine l → AreSmall (numbers_of l)
 unfolding numbers_of
 are_small (lines.Record g) h = (omega arith, tt)
-are_small lines.First h = tt
-are_small lines.Second h = tt
 are_small (lines.Member serial degree legacy) h = (h.0, (h.1, (mark_small legacy, tt)))
 are_small (lines.Reference n) h = (h, tt)
 are_small (lines.Lost n) h = (h, tt)
 are_small (lines.Legacy n) h = (h, tt)
-are_small lines.Cut h = tt
-are_small lines.Stop h = tt
-are_small lines.End h = tt
+are_small line h = tt
 
 -- lists of numbers of the same length have different texts
 one_ended : (ms ns : List ℕ) (x y : List ℕ) → AreSmall ms → AreSmall ns → length ms ≡ length ns → ended ms ++ x ≡ ended ns ++ y → (ms ≡ ns) × (x ≡ y)
 one_ended [] [] x y p q l e = (refl, e)
-one_ended [] (n ∷ ns) x y p q l e = absurd (omega arith)
-one_ended (m ∷ ms) [] x y p q l e = absurd (omega arith)
 one_ended (m ∷ []) (n ∷ []) x y p q l e =
     let one = one_number m n 10 10 x y p.0 q.0 (omega arith) (omega arith) (sym (append_assoc (decimal m) (10 ∷ []) x) ∙ e ∙ append_assoc (decimal n) (10 ∷ []) y) in (ap (λ k. k ∷ []) one.0, one.2)
-one_ended (m ∷ []) (n ∷ k ∷ ns) x y p q l e = absurd (omega arith)
-one_ended (m ∷ j ∷ ms) (n ∷ []) x y p q l e = absurd (omega arith)
 one_ended (m ∷ j ∷ ms) (n ∷ k ∷ ns) x y p q l e =
     let one = one_number m n 32 32 (ended (j ∷ ms) ++ x) (ended (k ∷ ns) ++ y) p.0 q.0 (omega arith) (omega arith)
     (sym (append_assoc (decimal m) (32 ∷ ended (j ∷ ms)) x) ∙ e ∙ append_assoc (decimal n) (32 ∷ ended (k ∷ ns)) y) in
     let more = one_ended (j ∷ ms) (k ∷ ns) x y p.1 q.1 (omega arith) one.2 in
     (ap (λ i. i ∷ j ∷ ms) one.0 ∙ ap (λ is. n ∷ is) more.0, more.1)
+one_ended xs list x y p q l e = absurd (omega arith)
 
 -- no line's text is a prefix of another's
 pub one_line : (a b : Line) (x y : List ℕ) → IsLine a → IsLine b → line_text a ++ x ≡ line_text b ++ y → (a ≡ b) × (x ≡ y)
@@ -188,22 +141,9 @@ pub not_member : (bytes rest : List ℕ) → ((serial degree mark : ℕ) (x : Li
 not_member bytes rest none is l x h e = let parts = line_parts words.Member l bytes rest x is e in by l h parts.0 parts.1
   where
     by : (l : Line) → IsLine l → words.Member ≡ word_of l → rest ≡ numbers_text l ++ x → ⊥
-    by (lines.Record g) h w t = absurd (cc)
-    by lines.First h w t = absurd (cc)
-    by lines.Second h w t = absurd (cc)
     by (lines.Member serial degree legacy) h w t = none serial degree (mark_of legacy) x h.0 h.1 (mark_at_most legacy)
         (t ∙ regroup_line serial degree (mark_of legacy) x ∙ sym (regroup serial degree (mark_of legacy) x))
-    by (lines.Reference n) h w t = absurd (cc)
-    by (lines.Lost n) h w t = absurd (cc)
-    by (lines.Legacy n) h w t = absurd (cc)
-    by lines.Cut h w t = absurd (cc)
-    by lines.Stop h w t = absurd (cc)
-    by lines.End h w t = absurd (cc)
-
-pub mark_read : (m : ℕ) → m ≤ 1 → mark_of (m == 1) ≡ m
-mark_read zero h = refl
-mark_read (suc zero) h = refl
-mark_read (suc (suc m)) h = absurd (omega arith)
+    by line h w t = absurd (cc)
 
 -- bytes that start like a member's line but lack a second or third number
 module _ (bytes rest : List ℕ) (s : ℕ) (fits : s < 2 ^ 64) (is : bytes ≡ decimal s ++ 32 ∷ rest) where

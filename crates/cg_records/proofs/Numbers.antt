@@ -1,12 +1,12 @@
 -- Decimal numbers: their digits, where they end, and that no two share a text.
-use Rattle.std.proofs.Common.{◌≡◌, ◌≢◌, ℕ, ◌+◌, ◌-◌, ◌*◌, ◌^◌, ◌<◌, ◌≤◌, List, [], ◌∷◌, ◌++◌, length, get_or, take, drop, Bool, true, false, not, ◌==◌, ◌&&◌, ◌||◌, refl, sym, ap, subst, ◌∙◌, arith, inl, inr, length-append, length-drop}
+use Rattle.std.proofs.Common.{◌≡◌, ◌≢◌, ℕ, ◌+◌, ◌-◌, ◌*◌, ◌^◌, ◌<◌, ◌≤◌, List, [], ◌∷◌, ◌++◌, length, get_or, take, drop, Bool, true, false, not, ◌==◌, ◌&&◌, ◌||◌, refl, sym, ap, subst, ◌∙◌, arith, inl, inr, length-append}
 use Rattle.std.specs.Prelude.{decimal}
 use Rattle.std.specs.Int.{IsInRange}
-use Rattle.std.proofs.Math.Seq.{get_or-append_seam, take-length}
+use Rattle.std.proofs.Math.Seq.{get_or-append_seam}
 use Rattle.std.proofs.Math.ListN.{get_or-append, drop_of_length-le}
 use Rattle.std.proofs.lemmas.Bool.{cases_lt}
 use Rattle.std.proofs.lemmas.Bool.Decides.{nat_tests}
-use Rattle.std.proofs.lemmas.List.{take_at, drop_at, drop_more, take-append-drop}
+use Rattle.std.proofs.lemmas.List.{take_at, drop_at, drop_more}
 use Rattle.std.proofs.lemmas.Str.Parse.{IsNumeralModel, numerals_by_fold, tells_by_index}
 use Rattle.std.proofs.lemmas.Fmt.{decimal_nonempty, first_decimal, decimal_injective, decimal-digits_value, digits_decimal, digits_value-decimal, decimal_digit}
 use Rattle.cg_records.specs.Number.{is_plain}
@@ -36,10 +36,9 @@ plain_parts : (word : List ℕ) → is_plain word ≡ true → (0 < length word)
 plain_parts word e = parts (length word) (get_or word 0 0) (length word == 0) (length word == 1) (get_or word 0 0 == 48) refl refl refl e
   where
     parts : (n d : ℕ) (a b c : Bool) → (n == 0) ≡ a → (n == 1) ≡ b → (d == 48) ≡ c → (not a && (b || not c)) ≡ true → (0 < n) × (d ≡ 48 → n ≡ 1)
-    parts n d true b c p q r e = absurd (cc)
     parts n d false true c p q r e = (grind (arith, nat_tests), λ z. grind (arith, nat_tests))
-    parts n d false false true p q r e = absurd (cc)
     parts n d false false false p q r e = (grind (arith, nat_tests), λ z. grind (arith, nat_tests))
+    parts n d bit b c p q r e = absurd (cc)
 
 pub plain_decimal : (n : ℕ) → n < 2 ^ 64 → is_plain (decimal n) ≡ true
 plain_decimal n h = elim (cases_lt 0 n) [ inl some ↦ plain (decimal n) (decimal_nonempty n h) (first_decimal n some h) | inr none ↦ zero_plain n (omega arith) ]
@@ -115,13 +114,3 @@ ends_at bytes stop end n rest low small before found is =
             | inr not_past ↦ let same : length (decimal n) ≡ end = omega arith in (omega arith, ap (take end) is ∙ take_at (decimal n) (stop ∷ rest) end same)
           ]
     ]
-
-all_taken : (m : ℕ) (xs : List ℕ) → take (length xs - m) (drop m xs) ≡ drop m xs
-all_taken m xs = ap (λ k. take k (drop m xs)) (sym (length-drop m xs)) ∙ take-length (drop m xs)
-
--- bytes split at a place: the word before it, the byte there, and the rest
-pub parts_at : (bytes : List ℕ) (stop end : ℕ) (word : List ℕ) → end < length bytes → get_or bytes end 0 ≡ stop → take end bytes ≡ word
-    → bytes ≡ word ++ stop ∷ take (length bytes - (end + 1)) (drop (end + 1) bytes)
-parts_at bytes stop end word within at is =
-    let seam : drop end bytes ≡ stop ∷ drop (end + 1) bytes = drop_more bytes end 0 within ∙ ap (λ c. c ∷ drop (end + 1) bytes) at in
-    rw all_taken (sym (take-append-drop end bytes) ∙ ap (λ (l : List ℕ). l ++ drop end bytes) is ∙ ap (λ (l : List ℕ). word ++ l) seam)

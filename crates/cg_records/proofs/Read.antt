@@ -12,9 +12,10 @@ use Rattle.cg_records.specs.Lines.{line_text, IsLine}
 use Rattle.cg_records.specs.Reading.{draft, step}
 use Rattle.cg_records.specs.RecordLines.{all_lines}
 use Rattle.cg_records.proofs.Lines.{one_line}
-use Rattle.cg_records.proofs.Machine.{run, start, is_stuck, run-all_lines}
+use Rattle.cg_records.proofs.Runs.{run, is_stuck}
+use Rattle.cg_records.proofs.Machine.{start, run-all_lines}
 use Rattle.cg_records.proofs.SmallNumbers.{lines_fit, lines_back, are_plain}
-use Rattle.cg_records.proofs.Sound.{Holds, holds_start, holds_more, ended_says}
+use Rattle.cg_records.proofs.Sound.{Holds, holds_more, ended_says}
 use Rattle.cg_records.proofs.Spelled.{lines_text, spelled, AreLines, are_more, text_more, line_takes, follows}
 
 -- the bytes up to a rest are lines that give the draft
@@ -23,9 +24,6 @@ pub record HasRead (bytes rest : List ℕ) (d : Draft) : Type 0 where
   pub says : bytes ≡ lines_text done ++ rest
   pub fits : AreLines done
   pub holds : Holds done d
-
-pub read_start : (bytes : List ℕ) → HasRead bytes bytes start
-read_start bytes = record { done = []; says = refl; fits = tt; holds = holds_start }
 
 pub read_more : (bytes rest after : List ℕ) (d e : Draft) (l : Line) → HasRead bytes rest d → IsLine l → rest ≡ line_text l ++ after → step d l ≡ Some e → HasRead bytes after e
 read_more bytes rest after d e l h fits says s =
@@ -40,7 +38,7 @@ module _ (bytes rest : List ℕ) (d : Draft) (h : HasRead bytes rest d) (rs : Li
   rest_of : (more : List Line) × (all_lines rs ≡ h.done ++ more) × (lines_text more ≡ rest) × AreLines more
   rest_of = follows h.done (all_lines rs) rest h.fits (lines_fit rs is.writable small) (sym (spelled rs) ∙ sym is.text ∙ h.says)
 
-  whole : run start (all_lines rs) ≡ Some (draft rs Ended)
+  whole : run step start (all_lines rs) ≡ Some (draft rs Ended)
   whole = run-all_lines rs (are_plain rs is.writable)
 
   pub no_line : 0 < length rest → ((l : Line) (x : List ℕ) → IsLine l → rest ≢ line_text l ++ x) → ⊥
@@ -57,7 +55,7 @@ module _ (bytes rest : List ℕ) (d : Draft) (h : HasRead bytes rest d) (rs : Li
       by [] p e fits = let some = line_takes l rest after says in omega (arith, ap length e)
       by (m ∷ ms) p e fits =
           let one = one_line m l (lines_text ms) after fits.0 fit (e ∙ says) in
-          let stuck : run start (all_lines rs) ≡ None = ap (run start) (p ∙ ap (λ k. h.done ++ k ∷ ms) one.0) ∙ is_stuck start d h.done ms l h.holds.reached none in
+          let stuck : run step start (all_lines rs) ≡ None = ap (run step start) (p ∙ ap (λ k. h.done ++ k ∷ ms) one.0) ∙ is_stuck step start d h.done ms l h.holds.reached none in
           let ended = whole in
           absurd (cc)
 
@@ -65,7 +63,7 @@ module _ (bytes rest : List ℕ) (d : Draft) (h : HasRead bytes rest d) (rs : Li
   no_end empty open_still =
       let nothing : rest_of.0 ≡ [] = no_lines rest_of.0 (rest_of.2 ∙ nil_from_length rest empty) in
       let all : all_lines rs ≡ h.done = rest_of.1 ∙ ap (λ t. h.done ++ t) nothing ∙ append-nil h.done in
-      let same : Some (draft rs Ended) ≡ Some d = sym whole ∙ ap (run start) all ∙ h.holds.reached in
+      let same : Some (draft rs Ended) ≡ Some d = sym whole ∙ ap (run step start) all ∙ h.holds.reached in
       let one : draft rs Ended ≡ d = cc in
       open_still (sym (ap (λ (e : Draft). e.stage) one))
 
@@ -100,7 +98,7 @@ same_records a b p q u v e =
     let more = follows (all_lines a) (all_lines b) [] (lines_fit a p q) (lines_fit b u v) (sym (spelled b) ∙ sym e ∙ spelled a ∙ sym (append-nil (lines_text (all_lines a)))) in
     let nothing : more.0 ≡ [] = no_lines more.0 more.2 in
     let all : all_lines b ≡ all_lines a = more.1 ∙ ap (λ t. all_lines a ++ t) nothing ∙ append-nil (all_lines a) in
-    let same : Some (draft a Ended) ≡ Some (draft b Ended) = sym (run-all_lines a (are_plain a p)) ∙ ap (run start) (sym all) ∙ run-all_lines b (are_plain b u) in
+    let same : Some (draft a Ended) ≡ Some (draft b Ended) = sym (run-all_lines a (are_plain a p)) ∙ ap (run step start) (sym all) ∙ run-all_lines b (are_plain b u) in
     ap (λ (d : Draft). d.records) (some_is (draft a Ended) (draft b Ended) same)
 
 -- bytes that spell some records are read as them

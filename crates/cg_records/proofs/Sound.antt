@@ -14,7 +14,8 @@ use Rattle.cg_records.specs.declared.draft.Draft.{Draft}
 use Rattle.cg_records.specs.Members.{member, with_reference}
 use Rattle.cg_records.specs.Reading.{graph, recorded, draft, in_graph, at_graph, step}
 use Rattle.cg_records.specs.RecordLines.{member_lines, graph_lines, record_lines, all_lines}
-use Rattle.cg_records.proofs.Machine.{run, start, goes_on, ArePlain}
+use Rattle.cg_records.proofs.Runs.{run, goes_on}
+use Rattle.cg_records.proofs.Machine.{start, ArePlain}
 
 -- the lines of a graph, with its legacy set
 abbrev full : Graph → List Line
@@ -32,11 +33,8 @@ lines_in d = flat_map record_lines d.records ++ stage_lines d.stage
 
 -- a second graph has no legacy set
 abbrev IsPlain : Stage → Type 0
-IsPlain Between = Unit {0}
-IsPlain (Opened g) = Unit {0}
-IsPlain (Within g None a) = Unit {0}
 IsPlain (Within g (Some f) a) = a.legacy ≡ []
-IsPlain Ended = Unit {0}
+IsPlain other = Unit {0}
 
 plain_more : (rs : List Rec) (r : Rec) → ArePlain rs → IfSome r.second (λ b. b.legacy ≡ []) → ArePlain (rs ++ r ∷ [])
 plain_more [] r h k = (k, tt)
@@ -46,9 +44,6 @@ plain_more (q ∷ rs) r h k = (h.0, plain_more rs r h.1 k)
 record Grows (d : Draft) (l : Line) (e : Draft) : Type 0 where
   pub says : lines_in e ≡ lines_in d ++ l ∷ []
   pub plain : ArePlain d.records → IsPlain d.stage → ArePlain e.records × IsPlain e.stage
-
-nothing_more : (xs : List Line) → (xs ++ []) ++ [] ≡ xs
-nothing_more xs = append-nil (xs ++ []) ∙ append-nil xs
 
 reference_more : (m : Member) (old : List Member) (n : ℕ) (o : Option (List Member)) (ns : List Member) → ((rest : List Member) → o ≡ Some rest
     → flat_map member_lines rest ≡ flat_map member_lines old ++ lines.Reference n ∷ [])
@@ -83,8 +78,7 @@ more_of_member ms [] [] s d mark b e =
       before = refl;
       after = refl;
     })
-more_of_member ms [] (x ∷ xs) s d mark b e = absurd (cc)
-more_of_member ms (x ∷ xs) legacy s d mark b e = absurd (cc)
+more_of_member ms list legacy s d mark b e = absurd (cc)
 
 more_of_reference : (ms : List Member) (lost legacy : List ℕ) (n : ℕ) (b : Graph) → in_graph (graph ms lost legacy) (lines.Reference n) ≡ Some b → HasMore (graph ms lost legacy) (lines.Reference n) b
 more_of_reference ms [] [] n b e = by (with_reference ms n) refl e
@@ -98,8 +92,7 @@ more_of_reference ms [] [] n b e = by (with_reference ms n) refl e
           before = refl;
           after = refl;
         })
-more_of_reference ms [] (x ∷ xs) n b e = absurd (cc)
-more_of_reference ms (x ∷ xs) legacy n b e = absurd (cc)
+more_of_reference ms list legacy n b e = absurd (cc)
 
 more_of_lost : (ms : List Member) (lost legacy : List ℕ) (n : ℕ) (b : Graph) → in_graph (graph ms lost legacy) (lines.Lost n) ≡ Some b → HasMore (graph ms lost legacy) (lines.Lost n) b
 more_of_lost ms lost [] n b e =
@@ -200,8 +193,6 @@ module _ (rs : List Rec) (g : ℕ) where
       behind xs ys zs = simp append_assoc
 
   grows_within : (f : Option Graph) (a : Graph) (l : Line) (e : Draft) → step (draft rs (Within g f a)) l ≡ Some e → Grows (draft rs (Within g f a)) l e
-  grows_within f a (lines.Record n) e h = absurd (cc)
-  grows_within f a lines.First e h = absurd (cc)
   grows_within f a lines.Second e h = second_step f a e h
   grows_within f a (lines.Member s d mark) e h = in_step f a (lines.Member s d mark) e (λ b p. more_of_member a.members a.lost a.legacy s d mark b p) h
   grows_within f a (lines.Reference n) e h = in_step f a (lines.Reference n) e (λ b p. more_of_reference a.members a.lost a.legacy n b p) h
@@ -209,37 +200,22 @@ module _ (rs : List Rec) (g : ℕ) where
   grows_within f a (lines.Legacy n) e h = legacy_step f a n e h
   grows_within f a lines.Cut e h = cut_step f a e h
   grows_within f a lines.Stop e h = stop_step f a e h
-  grows_within f a lines.End e h = absurd (cc)
+  grows_within f a line e h = absurd (cc)
 
 grows_between : (rs : List Rec) (l : Line) (e : Draft) → step (draft rs Between) l ≡ Some e → Grows (draft rs Between) l e
 grows_between rs (lines.Record n) e h =
     let is : draft rs (Opened n) ≡ e = cc in
     subst (Grows (draft rs Between) (lines.Record n)) is (record { says = ap (λ t. t ++ lines.Record n ∷ []) (sym (append-nil (flat_map record_lines rs))); plain = λ p q. (p, tt) })
-grows_between rs lines.First e h = absurd (cc)
-grows_between rs lines.Second e h = absurd (cc)
-grows_between rs (lines.Member s d mark) e h = absurd (cc)
-grows_between rs (lines.Reference n) e h = absurd (cc)
-grows_between rs (lines.Lost n) e h = absurd (cc)
-grows_between rs (lines.Legacy n) e h = absurd (cc)
-grows_between rs lines.Cut e h = absurd (cc)
-grows_between rs lines.Stop e h = absurd (cc)
 grows_between rs lines.End e h =
     let is : draft rs Ended ≡ e = cc in
     subst (Grows (draft rs Between) lines.End) is (record { says = ap (λ t. t ++ lines.End ∷ []) (sym (append-nil (flat_map record_lines rs))); plain = λ p q. (p, tt) })
+grows_between rs line e h = absurd (cc)
 
 grows_opened : (rs : List Rec) (g : ℕ) (l : Line) (e : Draft) → step (draft rs (Opened g)) l ≡ Some e → Grows (draft rs (Opened g)) l e
-grows_opened rs g (lines.Record n) e h = absurd (cc)
 grows_opened rs g lines.First e h =
     let is : draft rs (Within g None (graph [] [] [])) ≡ e = cc in
     subst (Grows (draft rs (Opened g)) lines.First) is (record { says = sym (append_assoc (flat_map record_lines rs) (lines.Record g ∷ []) (lines.First ∷ [])); plain = λ p q. (p, tt) })
-grows_opened rs g lines.Second e h = absurd (cc)
-grows_opened rs g (lines.Member s d mark) e h = absurd (cc)
-grows_opened rs g (lines.Reference n) e h = absurd (cc)
-grows_opened rs g (lines.Lost n) e h = absurd (cc)
-grows_opened rs g (lines.Legacy n) e h = absurd (cc)
-grows_opened rs g lines.Cut e h = absurd (cc)
-grows_opened rs g lines.Stop e h = absurd (cc)
-grows_opened rs g lines.End e h = absurd (cc)
+grows_opened rs g line e h = absurd (cc)
 
 grows_at : (rs : List Rec) (s : Stage) (l : Line) (e : Draft) → step (draft rs s) l ≡ Some e → Grows (draft rs s) l e
 grows_at rs Between l e h = grows_between rs l e h
@@ -252,17 +228,14 @@ grows d l e h = grows_at d.records d.stage l e h
 
 -- lines that were read, and the draft after them
 pub record Holds (done : List Line) (d : Draft) : Type 0 where
-  pub reached : run start done ≡ Some d
+  pub reached : run step start done ≡ Some d
   pub says : lines_in d ≡ done
   pub plain : ArePlain d.records × IsPlain d.stage
-
-pub holds_start : Holds [] start
-holds_start = record { reached = refl; says = refl; plain = (tt, tt) }
 
 pub holds_more : (done : List Line) (d e : Draft) (l : Line) → Holds done d → step d l ≡ Some e → Holds (done ++ l ∷ []) e
 holds_more done d e l h s =
     let more = grows d l e s in
-    record { reached = goes_on start d e done l h.reached s; says = more.says ∙ ap (λ t. t ++ l ∷ []) h.says; plain = more.plain h.plain.0 h.plain.1 }
+    record { reached = goes_on step start d e done l h.reached s; says = more.says ∙ ap (λ t. t ++ l ∷ []) h.says; plain = more.plain h.plain.0 h.plain.1 }
 
 pub ended_says : (done : List Line) (rs : List Rec) (d : Draft) → Holds done d → d ≡ draft rs Ended → (all_lines rs ≡ done) × ArePlain rs
 ended_says done rs d h e = (ap lines_in (sym e) ∙ h.says, subst (λ (b : Draft). ArePlain b.records) e h.plain.0)

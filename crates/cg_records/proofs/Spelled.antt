@@ -2,6 +2,7 @@
 use Rattle.std.proofs.Common.{◌≡◌, ℕ, ◌<◌, Bool, true, false, List, [], ◌∷◌, ◌++◌, map, length, Option, Some, None, refl, sym, ap, ◌∙◌, arith, append_assoc, append-nil, length-append}
 use Rattle.std.specs.Prelude.{flat_map, codes, decimal}
 use Rattle.std.proofs.lemmas.Fmt.{decimal_digit}
+use Rattle.std.proofs.lemmas.List.Concat.{flat_map-append}
 use Rattle.cg_records.specs.declared.graph.Member.{Member}
 use Rattle.cg_records.specs.declared.graph.Graph.{Graph}
 use Rattle.cg_records.specs.declared.graph.Rec.{Rec}
@@ -13,13 +14,13 @@ use Rattle.cg_records.specs.Text.{numbered, flag, member_text, graph_text, rest_
 use Rattle.cg_records.specs.Lines.{word_text, word_of, numbers_text, line_text, mark_of, IsLine}
 use Rattle.cg_records.specs.RecordLines.{member_lines, graph_lines, rest_lines, record_lines, all_lines}
 use Rattle.cg_records.proofs.Lines.{one_line}
+use Rattle.cg_records.proofs.Runs.{each_spelled}
 
 abbrev pub lines_text : List Line → List ℕ
 lines_text ls = flat_map line_text ls
 
 lines_text-append : (xs ys : List Line) → lines_text (xs ++ ys) ≡ lines_text xs ++ lines_text ys
-lines_text-append [] ys = refl
-lines_text-append (x ∷ xs) ys = ap (λ t. line_text x ++ t) (lines_text-append xs ys) ∙ sym (append_assoc (line_text x) (lines_text xs) (lines_text ys))
+lines_text-append xs ys = flat_map-append line_text xs ys
 
 each_line : (f : ℕ → Line) (g : ℕ → List ℕ) → ((n : ℕ) → line_text (f n) ≡ g n) → (ns : List ℕ) → lines_text (map f ns) ≡ flat_map g ns
 each_line f g same [] = refl
@@ -38,14 +39,9 @@ member_spelled m =
     ∙ member_grouped (decimal m.serial) (decimal m.degree) (decimal (mark_of m.legacy)) (flat_map (numbered (codes "r")) m.refs)
     ∙ ap (λ t. line_text (lines.Member m.serial m.degree m.legacy) ++ t) (sym (each_line lines.Reference (numbered (codes "r")) (λ n. refl) m.refs))
 
-members_spelled : (ms : List Member) → flat_map member_text ms ≡ lines_text (flat_map member_lines ms)
-members_spelled [] = refl
-members_spelled (m ∷ ms) =
-    ap (λ t. t ++ flat_map member_text ms) (member_spelled m) ∙ ap (λ t. lines_text (member_lines m) ++ t) (members_spelled ms) ∙ sym (lines_text-append (member_lines m) (flat_map member_lines ms))
-
 graph_spelled : (g : Graph) → graph_text g ≡ lines_text (graph_lines g)
 graph_spelled g =
-    ap (λ t. t ++ flat_map (numbered (codes "lost")) g.lost) (members_spelled g.members)
+    ap (λ t. t ++ flat_map (numbered (codes "lost")) g.lost) (each_spelled member_text member_lines line_text member_spelled g.members)
     ∙ ap (λ t. lines_text (flat_map member_lines g.members) ++ t) (sym (each_line lines.Lost (numbered (codes "lost")) (λ n. refl) g.lost))
     ∙ sym (lines_text-append (flat_map member_lines g.members) (map lines.Lost g.lost))
 
@@ -77,13 +73,8 @@ record_spelled r =
         ∙ ap (λ t. lines_text (graph_lines r.first) ++ (lines_text (map lines.Legacy r.first.legacy) ++ t)) (rest_spelled r.second)
         ∙ sym (three_texts (graph_lines r.first) (map lines.Legacy r.first.legacy) (rest_lines r.second))
 
-records_spelled : (rs : List Rec) → flat_map record_text rs ≡ lines_text (flat_map record_lines rs)
-records_spelled [] = refl
-records_spelled (r ∷ rs) =
-    ap (λ t. t ++ flat_map record_text rs) (record_spelled r) ∙ ap (λ t. lines_text (record_lines r) ++ t) (records_spelled rs) ∙ sym (lines_text-append (record_lines r) (flat_map record_lines rs))
-
 pub spelled : (rs : List Rec) → text rs ≡ lines_text (all_lines rs)
-spelled rs = ap (λ t. t ++ codes "end\n") (records_spelled rs) ∙ sym (lines_text-append (flat_map record_lines rs) (lines.End ∷ []))
+spelled rs = ap (λ t. t ++ codes "end\n") (each_spelled record_text record_lines line_text record_spelled rs) ∙ sym (lines_text-append (flat_map record_lines rs) (lines.End ∷ []))
 
 -- the numbers of each line are in range
 abbrev pub AreLines : List Line → Type 0
@@ -101,15 +92,7 @@ text_more bytes rest after ls l p q =
 
 some_text : (w : Word) → 0 < length (word_text w)
 some_text words.Record = omega arith
-some_text words.First = omega arith
-some_text words.Second = omega arith
-some_text words.Member = omega arith
-some_text words.Reference = omega arith
-some_text words.Lost = omega arith
-some_text words.Legacy = omega arith
-some_text words.Cut = omega arith
-some_text words.Stop = omega arith
-some_text words.End = omega arith
+some_text word = omega arith
 
 pub line_takes : (l : Line) (bytes after : List ℕ) → bytes ≡ line_text l ++ after → length after < length bytes
 line_takes l bytes after e =

@@ -1,7 +1,7 @@
 -- What each command leaves, and checks in order.
 use Rattle.std.proofs.Common.{◌≡◌, ℕ, ◌+◌, ◌≤◌, Result, Ok, Err, refl, Option, Some, None}
 use Rattle.cg_machine.specs.World.{World}
-use Rattle.cg_machine.specs.Effects.{Effect, Changes, Calls, Collects, Explains, Quits}
+use Rattle.cg_machine.specs.Effects.{Effect, Changes}
 use Rattle.cg_machine.specs.Refusals.{◌>>=◌}
 use Rattle.cg_represents.proofs.Serials.{Rises}
 use Rattle.std.specs.Prelude.{ok_or}
@@ -16,10 +16,7 @@ pub record Leaves (w after : World) : Type 0 where
 
 abbrev pub LeavesStack : World → Effect → Type 0
 LeavesStack w (Changes wants_memory lines given_up after) = Leaves w after
-LeavesStack w (Calls f) = Unit {0}
-LeavesStack w (Collects g) = Unit {0}
-LeavesStack w (Explains o) = Unit {0}
-LeavesStack w Quits = Unit {0}
+LeavesStack w effect = Unit {0}
 
 abbrev pub Each : {A : Type 0} → (A → Type 0) → Result A ℕ → Type 0
 Each P (Ok x) = P x

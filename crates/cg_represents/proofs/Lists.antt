@@ -1,6 +1,6 @@
 -- What stands in a list, how often, and what is found among the objects.
-use Rattle.std.proofs.Common.{◌≡◌, refl, sym, ◌∙◌, ap, subst, ℕ, zero, suc, ◌+◌, ◌<◌, ◌≤◌, Bool, true, false, cond, inl, inr, ◌⊎◌, List, [], ◌∷◌, Some, None, take, drop, length, arith}
-use Rattle.std.specs.Prelude.{◌==◌, remove, slice_get, slice_set}
+use Rattle.std.proofs.Common.{◌≡◌, refl, sym, ◌∙◌, ap, subst, ℕ, zero, suc, ◌+◌, ◌<◌, ◌≤◌, Bool, true, false, cond, inl, inr, ◌⊎◌, List, [], ◌∷◌, Some, None, take, drop, length, arith, map}
+use Rattle.std.specs.Prelude.{◌==◌, remove, slice_get, slice_set, if◌then◌else◌}
 use Rattle.std.proofs.lemmas.Bool.{eqb-true, eq-eqb}
 use Rattle.std.proofs.lemmas.List.Sums.{sum_by-cons}
 use Rattle.cg_graph.specs.declared.Edge.{Edge}
@@ -9,7 +9,7 @@ use Rattle.cg_graph.specs.Value.{references}
 use Rattle.cg_graph.specs.Object.{Object, object_at}
 use Rattle.cg_graph.specs.Holdings.{occurrences, entry_holdings, graph_of}
 use Rattle.cg_graph.specs.Reach.{Reach, first, next}
-use Rattle.cg_graph.proofs.Members.{either, Includes-of, includes-of, Includes-append_left, Includes-append_right, Includes-append_cases}
+use Rattle.cg_graph.proofs.Members.{either, Includes-of, includes-of, Includes-append_left, Includes-append_right, Includes-append_cases, Includes-map_cases}
 
 pub occurrences-cons : (o x : ℕ) (xs : List ℕ) → occurrences o (x ∷ xs) ≡ cond (x == o) 1 0 + occurrences o xs
 occurrences-cons o x xs = sum_by-cons (λ r. cond (r == o) 1 0) x xs
@@ -106,9 +106,8 @@ slice_get_member (y ∷ xs) (suc i) x e = inr (slice_get_member xs i x e)
 
 -- members of lists
 pub taken_member : {X : Type 0} (n : ℕ) (xs : List X) (x : X) → Includes (take n xs) x → Includes xs x
-taken_member zero xs x m = absurd m
-taken_member (suc n) [] x m = absurd m
 taken_member (suc n) (y ∷ xs) x m = either m (λ e. inl e) (λ k. inr (taken_member n xs x k))
+taken_member n xs x m = absurd m
 
 dropped_member : {X : Type 0} (n : ℕ) (xs : List X) (x : X) → Includes (drop n xs) x → Includes xs x
 dropped_member zero xs x m = m
@@ -126,3 +125,12 @@ set_member (z ∷ xs) (suc i) y x m = either m (λ e. inl (inl e)) (λ k. either
 pub Reach-inside : {Held Inside : ℕ → Type 0} {arrows : List Edge} {o : ℕ} → Reach Held Inside arrows o → Inside o
 Reach-inside (first h i) = i
 Reach-inside (next r e i) = i
+
+-- what holds of the changed objects and of the others holds of each after the change
+pub each_changed : (P : Object → Type 0) (f : Object → Object) (test : Object → Bool) (objects : List Object) → ((x : Object) → Includes objects x → test x ≡ true → P (f x))
+    → ((x : Object) → Includes objects x → test x ≡ false → P x) → (y : Object) → Includes (map (λ x. if test x then f x else x) objects) y → P y
+each_changed P f test objects changed others y m = let x = Includes-map_cases (λ x. if test x then f x else x) objects y m in subst P x.2 (by (test x.0) x.0 refl x.1)
+  where
+    by : (b : Bool) (x : Object) → test x ≡ b → Includes objects x → P (if b then f x else x)
+    by true x t m = changed x m t
+    by false x t m = others x m t

@@ -18,14 +18,8 @@ place_is Pend Pend h = refl
 place_is p q h = absurd (cc)
 
 pub place_self : (p : Place) → same_place p p ≡ true
-place_self Untracked = refl
 place_self (Gen i) = eq-eqb i i refl
-place_self Frozen = refl
-place_self Cand = refl
-place_self Seen = refl
-place_self Back = refl
-place_self Legacy = refl
-place_self Pend = refl
+place_self p = refl
 
 pub place_at_is : (p q : Place) → p ≡ q → same_place p q ≡ true
 place_at_is p q e = ap (same_place p) (sym e) ∙ place_self p

@@ -13,7 +13,7 @@ use Rattle.cg_graph.specs.Store.{Store, objects_of, outside_of, count_of, inner,
 use Rattle.cg_graph.proofs.Objects.{inner-holdings, occurrences-append}
 use Rattle.cg_graph.proofs.Members.{either, true_or}
 use Rattle.cg_machine.specs.declared.event.Event.{Event}
-use Rattle.cg_machine.specs.World.{World, Activity, TopLevel, Framed, Releasing, Dying, Collecting, Death, Collection, Running, with_stack, ShuttingDown}
+use Rattle.cg_machine.specs.World.{World, Activity, Releasing, Dying, Collecting, Death, Collection, Running, with_stack}
 use Rattle.cg_machine.specs.Holdings.{holdings, holds, in_degree, is_death_of}
 use Rattle.cg_machine.specs.Run.{StepOf, StepTaken}
 use Rattle.cg_represents.proofs.Lists.{occurrences-cons}
@@ -78,13 +78,9 @@ held_by_stack o w = rw (occurrences-append o (name_holdings w.names ++ (1 ∷ []
 -- an object that is dying has a death on the stack
 pub death_found : (o : ℕ) (stack : List Activity) → list_any (is_death_of o) stack ≡ true → (d : Death) × Includes stack (Dying d) × (d.object ≡ o)
 death_found o [] h = cc
-death_found o (TopLevel commands ∷ stack) h = let f = death_found o stack h in (f.0, inr f.1, f.2)
-death_found o (Framed g ∷ stack) h = let f = death_found o stack h in (f.0, inr f.1, f.2)
-death_found o (Releasing references ∷ stack) h = let f = death_found o stack h in (f.0, inr f.1, f.2)
 death_found o (Dying d ∷ stack) h = either (true_or (d.object == o) (list_any (is_death_of o) stack) h) (λ e. (d, inl refl, eqb-true d.object o e))
     (λ e. let f = death_found o stack e in (f.0, inr f.1, f.2))
-death_found o (Collecting c ∷ stack) h = let f = death_found o stack h in (f.0, inr f.1, f.2)
-death_found o (ShuttingDown started ∷ stack) h = let f = death_found o stack h in (f.0, inr f.1, f.2)
+death_found o (a ∷ stack) h = let f = death_found o stack h in (f.0, inr f.1, f.2)
 
 -- A heap represents a world, apart from the outside holds.
 pub record Matches (store : Store) (w : World) : Type 0 where

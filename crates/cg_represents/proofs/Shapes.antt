@@ -2,9 +2,9 @@
 use Rattle.std.proofs.Common.{◌≡◌, ◌≢◌, refl, sym, ◌∙◌, ap, subst, ℕ, zero, suc, ◌+◌, ◌≤◌, Bool, true, false, not, inl, inr, ◌⊎◌, List, [], ◌∷◌, ◌++◌, map, length, length-append, Option, Some, None, Result, Ok, Err, arith}
 use Rattle.std.specs.Prelude.{ℤ, pos, negsuc, flat_map, ◌==◌, ◌||◌, nat_le, nat_lt, if◌then◌else◌, is_some, is_none, ok_or, option_and_then, option_to_list, slice_set, slice_get, remove}
 use Rattle.std.proofs.lemmas.List.{length-set}
-use Rattle.std.proofs.lemmas.Bool.{eq-eqb, leb-true, ltb-true}
+use Rattle.std.proofs.lemmas.Bool.{eq-eqb, leb-true, ltb-true, not-true}
 use Rattle.cg_value.specs.declared.Val.{Val}
-use Rattle.cg_value.specs.declared.Val.TheVariants.{None as Nothing, Int, Str, Ref}
+use Rattle.cg_value.specs.declared.Val.TheVariants.{None as Nothing, Str, Ref}
 use Rattle.cg_value.specs.declared.Entry.{Entry}
 use Rattle.cg_value.specs.declared.KindCode.{KindCode}
 use Rattle.cg_value.specs.declared.KindCode.TheVariants.{List as ListKind, Tuple, Dict, Inst, Func, Weak}
@@ -76,12 +76,10 @@ pub record HasParts (w : World) (command : Command) (kind : KindCode) (class : O
 
 -- the mutable kinds: lists, dictionaries and instances
 abbrev pub IsMutable : KindCode → Type 0
-IsMutable ListKind = Unit {0}
 IsMutable Tuple = ⊥
-IsMutable Dict = Unit {0}
-IsMutable Inst = Unit {0}
 IsMutable Func = ⊥
 IsMutable Weak = ⊥
+IsMutable k = Unit {0}
 
 -- An edit of entries: a list may get one item at hand, but not the garbage list. At most one entry is given up, and the
 -- references of the others stay.
@@ -146,14 +144,8 @@ each_unless true refusal = refl
 each_unless false refusal = tt
 
 ref_is : (v : Val) (s : ℕ) → reference_in v ≡ Some s → v ≡ Ref s
-ref_is Nothing s e = absurd (let no : None ≡ Some s = e in cc)
-ref_is (Int n) s e = absurd (let no : None ≡ Some s = e in cc)
-ref_is (Str t) s e = absurd (let no : None ≡ Some s = e in cc)
 ref_is (Ref o) s e = let same : o ≡ s = cc in ap (λ n. Ref n) same
-
-option_two : (m : Option ℕ) → length (option_to_list m) ≤ 1
-option_two None = omega arith
-option_two (Some o) = omega arith
+ref_is v s e = absurd (let no : None ≡ Some s = e in cc)
 
 entry_at_member : (entries : List Entry) (key : Val) (e : Entry) → entry_at entries key ≡ Some e → Includes entries e
 entry_at_member [] key e at = absurd (let no : None ≡ Some e = at in cc)
@@ -352,9 +344,7 @@ module _ (w : World) (command : Command) where
 
   quit_shaped : (v : Val) → Shape w command (elim v [ Nothing ↦ Quits | _ ↦ Changes false [] [] w ])
   quit_shaped Nothing = Ends
-  quit_shaped (Int n) = Stays
-  quit_shaped (Str s) = Stays
-  quit_shaped (Ref o) = Stays
+  quit_shaped v = Stays
 
   pub record IsCallback (entries : List Entry) : Type 0 where
     pub items : AreItems w command entries
@@ -374,17 +364,11 @@ module _ (w : World) (command : Command) where
 
   callback_shaped : (v : Val) → IsAtHand w command v → Each IsCallback (callback_entries w v)
   callback_shaped Nothing hand = record { items = λ e m. absurd m; single = inl refl; functions = λ f k. absurd k }
-  callback_shaped (Int n) hand = is_found IsCallback _ is_function not_callable (Int n) hand (λ x h is. item_callback (Int n) hand x h is)
-  callback_shaped (Str s) hand = is_found IsCallback _ is_function not_callable (Str s) hand (λ x h is. item_callback (Str s) hand x h is)
-  callback_shaped (Ref p) hand = is_found IsCallback _ is_function not_callable (Ref p) hand (λ x h is. item_callback (Ref p) hand x h is)
+  callback_shaped v hand = is_found IsCallback _ is_function not_callable v hand (λ x h is. item_callback v hand x h is)
 
 list_code : (k : KindCode) → elim k [ ListKind ↦ true | _ ↦ false ] ≡ true → k ≡ ListKind
 list_code ListKind e = refl
-list_code Tuple e = absurd (let no : false ≡ true = e in cc)
-list_code Dict e = absurd (let no : false ≡ true = e in cc)
-list_code Inst e = absurd (let no : false ≡ true = e in cc)
-list_code Func e = absurd (let no : false ≡ true = e in cc)
-list_code Weak e = absurd (let no : false ≡ true = e in cc)
+list_code k e = absurd (let no : false ≡ true = e in cc)
 
 generation_low : (i : ℤ) (g : ℕ) → valid_index i 3 ≡ Some g → g ≤ 2
 generation_low (pos n) g e = go (nat_lt n 3) refl e
@@ -396,28 +380,22 @@ generation_low (negsuc n) g e = absurd (let no : None ≡ Some g = e in cc)
 
 -- the kinds that change
 list_mutable : (k : KindCode) → elim k [ ListKind ↦ true | _ ↦ false ] ≡ true → IsMutable k
-list_mutable ListKind e = tt
 list_mutable Tuple e = absurd (let no : false ≡ true = e in cc)
-list_mutable Dict e = tt
-list_mutable Inst e = tt
 list_mutable Func e = absurd (let no : false ≡ true = e in cc)
 list_mutable Weak e = absurd (let no : false ≡ true = e in cc)
+list_mutable k e = tt
 
 dict_mutable : (k : KindCode) → elim k [ Dict ↦ true | _ ↦ false ] ≡ true → IsMutable k
-dict_mutable ListKind e = tt
 dict_mutable Tuple e = absurd (let no : false ≡ true = e in cc)
-dict_mutable Dict e = tt
-dict_mutable Inst e = tt
 dict_mutable Func e = absurd (let no : false ≡ true = e in cc)
 dict_mutable Weak e = absurd (let no : false ≡ true = e in cc)
+dict_mutable k e = tt
 
 instance_mutable : (k : KindCode) → elim k [ Inst ↦ true | _ ↦ false ] ≡ true → IsMutable k
-instance_mutable ListKind e = tt
 instance_mutable Tuple e = absurd (let no : false ≡ true = e in cc)
-instance_mutable Dict e = tt
-instance_mutable Inst e = tt
 instance_mutable Func e = absurd (let no : false ≡ true = e in cc)
 instance_mutable Weak e = absurd (let no : false ≡ true = e in cc)
+instance_mutable k e = tt
 
 script_list_is : (x : Object) → is_script_list x ≡ true → (is_list x ≡ true) × (x.serial ≢ 1)
 script_list_is x t =
@@ -448,16 +426,12 @@ sets_shaped w command first second third flags enabled own = Sets (record w.numb
   enabled = enabled;
 }) own (record { zero_count = refl; one_count = refl; two_count = refl; pending = refl; total = refl })
 
-not_collecting : (b : Bool) → not b ≡ true → b ≡ false
-not_collecting false e = refl
-not_collecting true e = absurd (let no : false ≡ true = e in cc)
-
 inspected : (w : World) (command : Command) (operand : Operand) → IsWordOf command operand
     → (e : Object → Result Effect ℕ) → ((x : Object) → HasObject w command any_object x → is_collecting w ≡ false → Each (Shape w command) (e x))
     → Each (Shape w command) (value w operand >>= λ v. object w any_object wrong_kind v >>= λ x. unless (not (is_collecting w)) in_collection >>= λ u. e x)
 inspected w command operand own e h = valued w command _ operand own (λ v hand. found w command _ any_object wrong_kind v hand (λ x there.
     each_then (λ u. not (is_collecting w) ≡ true) (Shape w command) (unless (not (is_collecting w)) in_collection) _ (each_unless (not (is_collecting w))
-    in_collection) (λ u calm. h x there (not_collecting (is_collecting w) calm))))
+    in_collection) (λ u calm. h x there (not-true (is_collecting w) calm))))
 
 -- The effect of each command in each world has a shape.
 pub effect_shaped : (w : World) (command : Command) → Each (Shape w command) (effect w command)
@@ -531,10 +505,6 @@ effect_shaped w (Deref name weak) = valued w _ _ weak (λ of. Includes-append_ri
 effect_shaped w (Call function) = valued w _ _ function (λ of t m. m) (λ v hand. found w _ _ is_function not_callable v hand (λ x h. StartsFrame x h))
 effect_shaped w (Quit operand) = any w _ _ _ (λ v. quit_shaped w _ v)
 effect_shaped w (Collect generation) = there w _ _ (valid_index generation 3) bad_generation (λ g at. StartsCollection g (generation_low generation g at))
-effect_shaped w Enable = sets_shaped w Enable _ _ _ _ _ tt
-effect_shaped w Disable = sets_shaped w Disable _ _ _ _ _ tt
-effect_shaped w (Threshold first second third) = sets_shaped w (Threshold first second third) _ _ _ _ _ tt
-effect_shaped w (Flags bits) = sets_shaped w (Flags bits) _ _ _ _ _ tt
 effect_shaped w Freeze = Freezes refl
 effect_shaped w Unfreeze = Unfreezes refl
 effect_shaped w (Print operand) = valued w _ _ operand (λ of t m. m) (λ v hand. Shows v hand)
@@ -546,6 +516,7 @@ effect_shaped w (Referrers operand) = inspected w _ operand (λ of t m. m) _ (λ
 effect_shaped w (Why name) = inspected w _ (Name name) (λ of t m. m) _ (λ x h calm. AsksWhy x h calm)
 effect_shaped w Count = Tells _ tt
 effect_shaped w Gens = Tells _ tt
+effect_shaped w other = sets_shaped w other _ _ _ _ _ tt
 
 -- from the shapes of effects to a law on effects
 each_implies : {A : Type 0} (P Q : A → Type 0) → ((x : A) → P x → Q x) → (r : Result A ℕ) → Each P r → Each Q r

@@ -1,55 +1,18 @@
 -- Counting: how often places are targets of the nodes so far.
-use Rattle.std.proofs.Common.{◌≡◌, refl, sym, ◌∙◌, ap, subst, ℕ, zero, suc, ◌+◌, ◌<◌, ◌≤◌, ◌^◌, Bool, true, false, ◌⊎◌, inl, inr, List, [], ◌∷◌, ◌++◌, length, take, map, get_or, set, replicate, arith, length-append, take_all, append-nil, append_assoc}
+use Rattle.std.proofs.Common.{◌≡◌, refl, sym, ◌∙◌, ap, ℕ, zero, suc, ◌+◌, ◌<◌, ◌≤◌, ◌^◌, Bool, true, false, ◌⊎◌, inl, inr, List, [], ◌∷◌, ◌++◌, length, take, map, get_or, replicate, arith, length-append, append-nil, append_assoc}
 use Rattle.std.specs.Prelude.{if◌then◌else◌}
 use Rattle.std.specs.List.{concat}
-use Rattle.std.proofs.lemmas.Bool.{cases_eq, cases_lt}
-use Rattle.std.proofs.lemmas.List.{take_more, length-set, length-replicate, get_or-set_same, get_or-set_other, get_or-map}
+use Rattle.std.proofs.lemmas.Bool.{cases_lt}
+use Rattle.std.proofs.lemmas.List.{length-replicate, get_or-map}
 use Rattle.std.proofs.lemmas.List.Sums.{count_by-le-length}
 use Rattle.std.specs.Prelude.{◌==◌}
 use Rattle.cg_graph.specs.Holdings.{occurrences}
 use Rattle.cg_graph.proofs.Members.{either}
+use Rattle.cg_graph.proofs.Objects.{occurrences-append}
 use Rattle.cg_search.specs.Counts.{Adds, targets_from}
-use Rattle.cg_search.proofs.Places.{occurrences-append, occurrences-same, occurrences-other}
 
 pub few_occurrences : (o : ℕ) (xs : List ℕ) → occurrences o xs ≤ length xs
 few_occurrences o xs = count_by-le-length (λ r. r == o) xs
-
-pub adds_none : (counts : List ℕ) → Adds counts [] counts
-adds_none counts = record { len = refl; adds = λ i within. omega arith }
-
--- some targets, then others
-pub adds_more : (old mid new first others : List ℕ) → Adds old first mid → Adds mid others new → Adds old (first ++ others) new
-adds_more old mid new first others h k = record {
-  len = k.len ∙ h.len;
-  adds = λ i within. let b = k.adds i (omega (arith, within, h.len)) in omega (arith, h.adds i within, b, occurrences-append i first others);
-}
-
--- one more at a place
-adds_one : (counts : List ℕ) (at number : ℕ) → at < length counts → number ≡ get_or counts at 0 → Adds counts (at ∷ []) (set counts at (number + 1))
-adds_one counts at number within read = record {
-  len = length-set counts at (number + 1);
-  adds = λ i below. either (cases_eq at i) (λ e. same i e) (λ n. omega (arith, get_or-set_other counts at i (number + 1) 0 (λ e. n (sym e)), occurrences-other i at [] n));
-}
-  where
-    same : (i : ℕ) → at ≡ i → get_or (set counts at (number + 1)) i 0 ≡ get_or counts i 0 + occurrences i (at ∷ [])
-    same i e =
-        let now : get_or (set counts at (number + 1)) i 0 ≡ number + 1 = ap (λ j. get_or (set counts at (number + 1)) j 0) (sym e) ∙ get_or-set_same counts at (number + 1) 0 within in
-        let was : get_or counts i 0 ≡ number = ap (λ j. get_or counts j 0) (sym e) ∙ sym read in
-        omega (arith, now, was, occurrences-same i at [] e)
-
--- the next target of a row is a place
-pub adds_next : (old counts row : List ℕ) (k number : ℕ) → k < length row → get_or row k 0 < length counts → number ≡ get_or counts (get_or row k 0) 0
-    → Adds old (take k row) counts → Adds old (take (k + 1) row) (set counts (get_or row k 0) (number + 1))
-adds_next old counts row k number inside within read h =
-    subst (λ (ts : List ℕ). Adds old ts (set counts (get_or row k 0) (number + 1))) (sym (take_more row k 0 inside))
-    (adds_more old counts (set counts (get_or row k 0) (number + 1)) (take k row) (get_or row k 0 ∷ []) h (adds_one counts (get_or row k 0) number within read))
-
--- the next target is not a place
-pub adds_skip : (old counts row : List ℕ) (k : ℕ) → k < length row → length counts ≤ get_or row k 0 → Adds old (take k row) counts → Adds old (take (k + 1) row) counts
-adds_skip old counts row k inside past h =
-    subst (λ (ts : List ℕ). Adds old ts counts) (sym (take_more row k 0 inside))
-    (adds_more old counts counts (take k row) (get_or row k 0 ∷ []) h
-    (record { len = refl; adds = λ i below. omega (arith, occurrences-other i (get_or row k 0) [] (λ e. absurd (omega (arith, e, below, past)))) }))
 
 -- the nodes so far, and the next
 targets_suc : (marks : List Bool) (rows : List (List ℕ)) (k : ℕ) (row : List ℕ) → k < length rows → length marks ≡ length rows → row ≡ get_or rows k row
@@ -70,9 +33,8 @@ targets_next marks rows k row within long is =
 -- the targets of all nodes
 pub targets_all : (rows : List (List ℕ)) (n : ℕ) → n ≡ length rows → targets_from (replicate n true) rows ≡ concat rows
 targets_all [] zero long = refl
-targets_all [] (suc n) long = absurd (omega (arith, long))
-targets_all (r ∷ rows) zero long = absurd (omega (arith, long))
 targets_all (r ∷ rows) (suc n) long = ap (λ t. r ++ t) (targets_all rows n (omega (arith, long)))
+targets_all xs n long = absurd (omega (arith, long))
 
 chosen : (m : Bool) (r : List ℕ) → length (if m then r else []) ≤ length r
 chosen true r = omega arith
@@ -93,7 +55,7 @@ pub record CountsTo (marks : List Bool) (rows : List (List ℕ)) (at : ℕ) (cou
   pub len : length counts ≡ length rows
   pub each : (i : ℕ) → i < length rows → get_or counts i 0 ≡ occurrences i (targets_from (take at marks) (take at rows))
 
-zeros : (n i : ℕ) → ◌≡◌ {A = ℕ} (get_or (replicate n 0) i 0) 0
+pub zeros : (n i : ℕ) → ◌≡◌ {A = ℕ} (get_or (replicate n 0) i 0) 0
 zeros zero i = refl
 zeros (suc n) zero = refl
 zeros (suc n) (suc i) = zeros n i
@@ -104,7 +66,7 @@ counts_first marks rows n counts is long = record {
   each = λ i within. ap (λ (xs : List ℕ). get_or xs i 0) is ∙ zeros n i;
 }
 
-past_end : (xs : List ℕ) (i : ℕ) → length xs ≤ i → get_or xs i 0 ≡ 0
+pub past_end : (xs : List ℕ) (i : ℕ) → length xs ≤ i → get_or xs i 0 ≡ 0
 past_end [] i h = refl
 past_end (x ∷ xs) zero h = absurd (omega (arith, h))
 past_end (x ∷ xs) (suc i) h = past_end xs i (omega (arith, h))
@@ -141,15 +103,8 @@ counts_skip marks rows at counts within long mark so = record {
 }
   where
     get_or-twice : (rs : List (List ℕ)) (k : ℕ) → get_or rs k [] ≡ get_or rs k (get_or rs k [])
-    get_or-twice [] k = refl
-    get_or-twice (r ∷ rs) zero = refl
     get_or-twice (r ∷ rs) (suc k) = get_or-twice rs k
-
-pub counts_all : (marks : List Bool) (rows : List (List ℕ)) (at : ℕ) (counts : List ℕ) → length rows ≤ at → length marks ≡ length rows
-    → CountsTo marks rows at counts → (i : ℕ) → i < length rows → get_or counts i 0 ≡ occurrences i (targets_from marks rows)
-counts_all marks rows at counts end long so i within =
-    so.each i within ∙ ap (λ (bs : List Bool). occurrences i (targets_from bs (take at rows))) (take_all at marks (omega (arith, long, end)))
-    ∙ ap (λ (rs : List (List ℕ)). occurrences i (targets_from marks rs)) (take_all at rows end)
+    get_or-twice xs k = refl
 
 -- the row of a node
 pub row_of_node : {N : Type 0} (f : N → List ℕ) (nodes : List N) (at : ℕ) (n : N) (row : List ℕ) → at < length nodes → n ≡ get_or nodes at n → row ≡ f n → row ≡ get_or (map f nodes) at row

@@ -2,7 +2,7 @@
 use Rattle.std.proofs.Common.{◌≡◌, refl, sym, ◌∙◌, ap, subst, ℕ, zero, suc, ◌+◌, Bool, true, false, List, [], ◌∷◌, map, Some, arith}
 use Rattle.std.specs.Prelude.{slice_get, filter}
 use Rattle.std.specs.List.{AllByRecursion}
-use Rattle.std.proofs.lemmas.Option.{get_or_from_slice_get}
+use Rattle.std.proofs.lemmas.Option.{get_or_from_slice_get, same_Some}
 use Rattle.cg_graph.specs.declared.Edge.{Edge}
 use Rattle.cg_graph.specs.Member.{Includes}
 use Rattle.cg_graph.specs.Reach.{Reach, first, next}
@@ -58,14 +58,11 @@ module _ (allowed : List Bool) (rows : List (List ℕ)) where
       let is = Includes-filter_cases (is_marked allowed) row t h in
       Includes-filter (λ (e : Edge). is_marked allowed e.to) (edges_of rows) (edge o t) is.1 (edge_in rows o row t at is.0)
 
-  same_some : {X : Type 0} (x y : X) → Some x ≡ Some y → x ≡ y
-  same_some x y e = cc
-
   pub step_out : (o : ℕ) (row : List ℕ) (t : ℕ) → slice_get rows o ≡ Some row → Includes (steps_of allowed rows) (edge o t) → Includes (filter (is_marked allowed) row) t
   step_out o row t at h =
       let is = Includes-filter_cases (λ (e : Edge). is_marked allowed e.to) (edges_of rows) (edge o t) h in
       let found = edge_out rows o t is.0 in
-      let same : found.0 ≡ row = same_some found.0 row (sym found.1 ∙ at) in
+      let same : found.0 ≡ row = same_Some found.0 row (sym found.1 ∙ at) in
       Includes-filter (is_marked allowed) row t is.1 (subst (λ (xs : List ℕ). Includes xs t) same found.2)
 
   leads_way : (path : List ℕ) (o object : ℕ) → LeadsTo (steps_of allowed rows) o path object → LeadsTo (edges_of rows) o path object × AllByRecursion (Marks allowed) path

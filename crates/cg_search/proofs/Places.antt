@@ -3,7 +3,7 @@ use Rattle.std.proofs.Common.{◌≡◌, refl, sym, ◌∙◌, ap, subst, ℕ, z
 use Rattle.std.specs.Prelude.{◌==◌, slice_get}
 use Rattle.std.proofs.lemmas.Bool.{cases_eq, eq-eqb, ne_eqb}
 use Rattle.std.proofs.lemmas.List.{take_more, get_or-set_same, length-set}
-use Rattle.std.proofs.lemmas.List.Sums.{sum_by-append, sum_by-cons}
+use Rattle.std.proofs.lemmas.List.Sums.{sum_by-cons}
 use Rattle.std.proofs.lemmas.Option.{same_Some, slice_get-get_or}
 use Rattle.cg_graph.specs.Member.{Includes}
 use Rattle.cg_graph.specs.Holdings.{occurrences}
@@ -47,11 +47,9 @@ module _ {X : Type 0} where
   slice_get-set_same xs i y within = slice_get-get_or (set xs i y) i y (omega (arith, within, length-set xs i y)) ∙ ap Some (get_or-set_same xs i y y within)
 
   pub slice_get-set_other : (xs : List X) (i j : ℕ) (y : X) → ¬ (j ≡ i) → slice_get (set xs i y) j ≡ slice_get xs j
-  slice_get-set_other [] i j y n = refl
   slice_get-set_other (x ∷ xs) zero zero y n = absurd (n refl)
-  slice_get-set_other (x ∷ xs) zero (suc j) y n = refl
-  slice_get-set_other (x ∷ xs) (suc i) zero y n = refl
   slice_get-set_other (x ∷ xs) (suc i) (suc j) y n = slice_get-set_other xs i j y (λ e. n (ap suc e))
+  slice_get-set_other xs i j y n = refl
 
   -- the first elements, and the next
   pub includes_more : (xs : List X) (k : ℕ) (d x : X) → k < length xs → Includes (take (k + 1) xs) x → Includes (take k xs) x ⊎ (get_or xs k d ≡ x)
@@ -65,9 +63,8 @@ module _ {X : Type 0} where
   includes_last xs k d within = subst (λ (ys : List X). Includes ys (get_or xs k d)) (sym (take_more xs k d within)) (Includes-append_right (take k xs) (get_or xs k d ∷ []) (get_or xs k d) (inl refl))
 
 pub unmarked : (n i : ℕ) → slice_get (replicate n false) i ≡ Some true → ⊥
-unmarked zero i e = absurd (cc)
-unmarked (suc n) zero e = absurd (cc)
 unmarked (suc n) (suc i) e = unmarked n i e
+unmarked n i e = absurd (cc)
 
 pub occurrences-cons : (o x : ℕ) (xs : List ℕ) → occurrences o (x ∷ xs) ≡ cond (x == o) 1 0 + occurrences o xs
 occurrences-cons o x xs = sum_by-cons (λ r. cond (r == o) 1 0) x xs
@@ -77,9 +74,6 @@ occurrences-same o x xs e = occurrences-cons o x xs ∙ ap (λ b. (cond {A = ℕ
 
 pub occurrences-other : (o x : ℕ) (xs : List ℕ) → ¬ (x ≡ o) → occurrences o (x ∷ xs) ≡ occurrences o xs
 occurrences-other o x xs n = occurrences-cons o x xs ∙ ap (λ b. (cond {A = ℕ} b 1 0) + occurrences o xs) (ne_eqb x o n) ∙ omega arith
-
-pub occurrences-append : (o : ℕ) (xs ys : List ℕ) → occurrences o (xs ++ ys) ≡ occurrences o xs + occurrences o ys
-occurrences-append o xs ys = sum_by-append (λ r. cond (r == o) 1 0) xs ys
 
 -- removing the head removes one occurrence, or none
 pub fewer_in_tail : (o x : ℕ) (xs : List ℕ) → occurrences o xs ≤ occurrences o (x ∷ xs)

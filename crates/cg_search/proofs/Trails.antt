@@ -2,7 +2,7 @@
 use Rattle.std.proofs.Common.{◌≡◌, refl, sym, ◌∙◌, ap, subst, ℕ, zero, suc, ◌+◌, ◌<◌, ◌≤◌, ◌⊎◌, inl, inr, Bool, true, false, cond, List, [], ◌∷◌, ◌++◌, length, map, reverse, take, Option, Some, None, arith, length-append, append_assoc}
 use Rattle.std.specs.Prelude.{◌==◌, slice_get}
 use Rattle.std.proofs.lemmas.Bool.{eq-eqb, ne_eqb, cases_eq}
-use Rattle.std.proofs.lemmas.Option.{slice_get_within, get_or_from_slice_get}
+use Rattle.std.proofs.lemmas.Option.{slice_get_within, get_or_from_slice_get, same_Some}
 use Rattle.std.proofs.lemmas.List.{take_more, append-nil, length-reverse}
 use Rattle.std.proofs.lemmas.Grind.{reverse_onto}
 use Rattle.cg_graph.specs.declared.Edge.{Edge}
@@ -50,9 +50,6 @@ get_below [] i h = absurd (omega (arith, h))
 get_below (x ∷ xs) zero h = (x, refl)
 get_below (x ∷ xs) (suc i) h = get_below xs i (omega (arith, h))
 
-same_some : {X : Type 0} (x y : X) → Some x ≡ Some y → x ≡ y
-same_some x y e = cc
-
 pub next_taken : {X : Type 0} (xs : List X) (i : ℕ) (x : X) → slice_get xs i ≡ Some x → take (i + 1) xs ≡ take i xs ++ x ∷ []
 next_taken xs i x h = take_more xs i x (slice_get_within xs i x h) ∙ ap (λ y. take i xs ++ y ∷ []) (get_or_from_slice_get xs i x x h)
 
@@ -73,14 +70,14 @@ one_place (x ∷ xs) zero (suc k) o once h l = absurd (twice x xs k o once h l)
   where
     twice : (x : ℕ) (xs : List ℕ) (k o : ℕ) → occurrences o (x ∷ xs) ≤ 1 → Some x ≡ Some o → slice_get xs k ≡ Some o → ⊥
     twice x xs k o once h l =
-        let here : occurrences o (x ∷ xs) ≡ 1 + occurrences o xs = occurrences-cons o x xs ∙ ap (λ b. cond b 1 0 + occurrences o xs) (eq-eqb x o (same_some x o h)) in
+        let here : occurrences o (x ∷ xs) ≡ 1 + occurrences o xs = occurrences-cons o x xs ∙ ap (λ b. cond b 1 0 + occurrences o xs) (eq-eqb x o (same_Some x o h)) in
         let there = occurs xs o (get_in xs k o l) in
         absurd (omega (arith, here, there, once))
 one_place (x ∷ xs) (suc i) zero o once h l = absurd (twice x xs i o once l h)
   where
     twice : (x : ℕ) (xs : List ℕ) (k o : ℕ) → occurrences o (x ∷ xs) ≤ 1 → Some x ≡ Some o → slice_get xs k ≡ Some o → ⊥
     twice x xs k o once h l =
-        let here : occurrences o (x ∷ xs) ≡ 1 + occurrences o xs = occurrences-cons o x xs ∙ ap (λ b. cond b 1 0 + occurrences o xs) (eq-eqb x o (same_some x o h)) in
+        let here : occurrences o (x ∷ xs) ≡ 1 + occurrences o xs = occurrences-cons o x xs ∙ ap (λ b. cond b 1 0 + occurrences o xs) (eq-eqb x o (same_Some x o h)) in
         let there = occurs xs o (get_in xs k o l) in
         absurd (omega (arith, here, there, once))
 one_place (x ∷ xs) (suc i) (suc k) o once h l = ap suc (one_place xs i k o (omega (arith, once, occurrences-cons o x xs)) h l)
@@ -102,10 +99,9 @@ lengthen_flat n (t ∷ us) h = (λ u m. omega (arith, h t (inl refl), h u (inr m
 
 pub lengthen_get : (ts : List (List ℕ)) → Lengthen ts → (i k : ℕ) (t u : List ℕ) → slice_get ts i ≡ Some t → slice_get ts k ≡ Some u → i < k → length t ≤ length u
 lengthen_get [] a i k t u h l less = absurd (cc)
-lengthen_get (v ∷ ts) a zero zero t u h l less = absurd (omega (arith, less))
-lengthen_get (v ∷ ts) a zero (suc k) t u h l less = let e = ap length (same_some v t h) in let r = a.0 u (get_in ts k u l) in omega (arith, e, r)
-lengthen_get (v ∷ ts) a (suc i) zero t u h l less = absurd (omega (arith, less))
+lengthen_get (v ∷ ts) a zero (suc k) t u h l less = let e = ap length (same_Some v t h) in let r = a.0 u (get_in ts k u l) in omega (arith, e, r)
 lengthen_get (v ∷ ts) a (suc i) (suc k) t u h l less = lengthen_get ts a.1 i k t u h l (omega (arith, less))
+lengthen_get (v ∷ ts) a n zero t u h l less = absurd (omega (arith, less))
 
 -- A found object has a trail.
 pub trail_of : (found : Findings) (trails : List (List ℕ)) → HaveTrails found trails → (o : ℕ) → Includes (objects_in found) o → (t : List ℕ) × Includes trails t × IsTrailOf o t
@@ -134,7 +130,7 @@ found_of found trails have i o t at ends =
     let low = slice_get_within trails i t at in
     let r = get_below found i (omega (arith, low, have.many)) in
     let by = trail_at found trails have i r.0.0 r.0.1 r.1 in
-    let same : r.0.0 ∷ by.0 ≡ t = same_some (r.0.0 ∷ by.0) t (sym by.1 ∙ at) in
+    let same : r.0.0 ∷ by.0 ≡ t = same_Some (r.0.0 ∷ by.0) t (sym by.1 ∙ at) in
     get_map (λ (e : ℕ × Option ℕ). e.0) found i r.0 r.1 ∙ ap Some (subst (IsTrailOf o) (sym same) ends)
 
 abbrev trailed : List ℕ → ℕ × Option ℕ → List ℕ
@@ -327,7 +323,7 @@ module _ (Held : ℕ → Type 0) (arrows : List Edge) where
               let n = nearest object other leads in
               let k = in_get h.trails n.0 n.1 in
               let same : place ≡ k.0 = one_place (objects_in found) place k.0 object (h.once object) at (found_of found h.trails h.have k.0 object n.0 k.1 n.2) in
-              let one : r.0 ≡ n.0 = same_some r.0 n.0 (sym r.1 ∙ ap (slice_get h.trails) same ∙ k.1) in
+              let one : r.0 ≡ n.0 = same_Some r.0 n.0 (sym r.1 ∙ ap (slice_get h.trails) same ∙ k.1) in
               let len = ap length is in
               let len_one = ap length one in
               omega (arith, len, len_one, length-reverse r.0, n.3);
@@ -337,8 +333,8 @@ module _ (Held : ℕ → Type 0) (arrows : List Edge) where
         ending t got =
             let e = get_below found place (omega (arith, slice_get_within (objects_in found) place object at, length-objects_in found)) in
             let by = trail_at found h.trails h.have place e.0.0 e.0.1 e.1 in
-            let same : e.0.0 ∷ by.0 ≡ t = same_some (e.0.0 ∷ by.0) t (sym by.1 ∙ got) in
-            let head : e.0.0 ≡ object = same_some e.0.0 object (sym (get_map (λ (x : ℕ × Option ℕ). x.0) found place e.0 e.1) ∙ at) in
+            let same : e.0.0 ∷ by.0 ≡ t = same_Some (e.0.0 ∷ by.0) t (sym by.1 ∙ got) in
+            let head : e.0.0 ≡ object = same_Some e.0.0 object (sym (get_map (λ (x : ℕ × Option ℕ). x.0) found place e.0 e.1) ∙ at) in
             subst (IsTrailOf object) same head
 
 -- Following a trail back: the rest of it is the trail of the holder at the cursor.
@@ -357,11 +353,6 @@ pub record HasGoneBack (found : Findings) (last : ℕ) (path : List ℕ) (cursor
 abbrev pub ahead_of : Option ℕ → ℕ
 ahead_of None = 0
 ahead_of (Some place) = place + 1
-
-pub back_first : (found : Findings) (last : ℕ) (path : List ℕ) (cursor : Option ℕ) → path ≡ [] → cursor ≡ Some last → last < length found → HasGoneBack found last path cursor
-back_first found last path cursor none is low =
-    subst (λ (p : List ℕ). HasGoneBack found last p cursor) (sym none)
-    (subst (λ (c : Option ℕ). HasGoneBack found last [] c) (sym is) (record { within = low; left = λ trails have trail at. (trail, at, refl) }))
 
 -- the holder of a found object comes before it
 pub back_lower : (found : Findings) (trails : List (List ℕ)) → HaveTrails found trails → (place o : ℕ) (holder : Option ℕ) → slice_get found place
@@ -386,17 +377,11 @@ back_more found trails have last place o holder path new gone at is = record {
     go : (ts : List (List ℕ)) (trail rest : List ℕ) → slice_get ts place ≡ Some rest → path ++ rest ≡ trail → (k : Option ℕ) (t : List ℕ) → slice_get ts place ≡ Some t → TrailBy ts place o k t
         → (left : List ℕ) × IsLeft ts k left × (new ++ left ≡ trail)
     go ts all rest got whole None t there by =
-        let same : rest ≡ o ∷ [] = same_some rest t (sym got ∙ there) ∙ by in
+        let same : rest ≡ o ∷ [] = same_Some rest t (sym got ∙ there) ∙ by in
         ([], refl, ap (λ (l : List ℕ). l ++ []) is ∙ append_assoc path (o ∷ []) [] ∙ ap (λ (l : List ℕ). path ++ l) (sym same) ∙ whole)
     go ts all rest got whole (Some j) t there by =
-        let same : rest ≡ o ∷ by.1.0 = same_some rest t (sym got ∙ there) ∙ by.1.2 in
+        let same : rest ≡ o ∷ by.1.0 = same_Some rest t (sym got ∙ there) ∙ by.1.2 in
         (by.1.0, by.1.1, ap (λ (l : List ℕ). l ++ by.1.0) is ∙ append_assoc path (o ∷ []) by.1.0 ∙ ap (λ (l : List ℕ). path ++ l) (sym same) ∙ whole)
-
-pub back_end : (found : Findings) (last : ℕ) (path : List ℕ) (cursor : Option ℕ) → HasGoneBack found last path cursor → cursor ≡ None
-    → (trails : List (List ℕ)) → HaveTrails found trails → (trail : List ℕ) → slice_get trails last ≡ Some trail → path ≡ trail
-back_end found last path cursor gone none trails have trail at =
-    let r = (subst (λ (c : Option ℕ). HasGoneBack found last path c) none gone).left trails have trail at in
-    sym (append-nil path) ∙ ap (λ (l : List ℕ). path ++ l) (sym r.1) ∙ r.2
 
 -- Finds objects one by one.
 pub finds_none : (found : Findings) (holder : Option ℕ) → Finds found [] holder found
@@ -454,10 +439,6 @@ finds_more old mid new refs object holder a b = record {
       (λ k. b.all o k);
   once = λ h. b.once (a.once h);
 }
-
--- Finds the starts one by one.
-pub start_none : (Held : ℕ → Type 0) → ((o : ℕ) → ¬ Held o) → IsStart Held []
-start_none Held none = record { only = λ e m. absurd m; all = λ o h. absurd (none o h); once = λ o. omega arith }
 
 pub start_more : (Held Now : ℕ → Type 0) (old new : Findings) (object : ℕ) → IsStart Held old → Finds old (object ∷ []) None new → Now object
     → ((o : ℕ) → Held o → Now o) → ((o : ℕ) → Now o → Held o ⊎ (object ≡ o)) → IsStart Now new

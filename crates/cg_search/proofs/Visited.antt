@@ -1,5 +1,5 @@
 -- The search: what was visited, what waits, and that it marks exactly what paths lead to.
-use Rattle.std.proofs.Common.{◌≡◌, refl, sym, ◌∙◌, ap, subst, ℕ, zero, suc, ◌+◌, ◌<◌, ◌≤◌, Bool, true, false, cond, not, ◌⊎◌, inl, inr, List, [], ◌∷◌, ◌++◌, length, take, Option, Some, arith, get_or, set, replicate, map}
+use Rattle.std.proofs.Common.{◌≡◌, refl, sym, ◌∙◌, ap, subst, ℕ, zero, suc, ◌+◌, ◌<◌, Bool, true, false, cond, not, ◌⊎◌, inl, inr, List, [], ◌∷◌, ◌++◌, length, take, Option, Some, arith, get_or, set, replicate, map}
 use Rattle.std.specs.Prelude.{◌↔◌, slice_get, count_by, option_to_list, option_map}
 use Rattle.std.specs.List.{concat}
 use Rattle.std.proofs.lemmas.Bool.{cases_eq}
@@ -51,18 +51,6 @@ module _ (allowed : List Bool) where
           ap (λ b. count_by not (set old target true) + cond {A = ℕ} (not b) 1 0) (sym (get_or_from_slice_get old target false true mark))
           ∙ sum_by-set (λ b. cond {A = ℕ} (not b) 1 0) old target true true (slice_get_within old target false mark)
 
-  -- no target
-  pub visits_nothing : (Target : ℕ → Type 0) (old : List Bool) (waits : List ℕ) → ((i : ℕ) → Target i → ⊥) → Visits Target allowed old waits old waits
-  visits_nothing Target old waits none = record {
-    len = refl;
-    marked = λ i t a. absurd (none i t);
-    stay = λ i m. m;
-    only = λ i m. inl m;
-    still_wait = λ i h. h;
-    only_wait = λ i h. inl h;
-    left = refl;
-  }
-
   -- some targets, then others
   pub visits_more : (First Then All : ℕ → Type 0) (a b c : List Bool) (u v w : List ℕ) → Visits First allowed a u b v → Visits Then allowed b v c w
       → ((i : ℕ) → All i → First i ⊎ Then i) → ((i : ℕ) → First i → All i) → ((i : ℕ) → Then i → All i)
@@ -85,29 +73,6 @@ module _ (allowed : List Bool) where
       (λ i m. either (includes_more row at d i within m) (λ x. inl x) (λ e. inr (sym e)))
       (λ i m. includes_first row at d i within m)
       (λ i e. subst (λ j. Includes (take (at + 1) row) j) (sym e) (includes_last row at d within))
-
-  -- the starts below a position
-  pub visits_start : (starts : List Bool) (at : ℕ) (a b c : List Bool) (u v w : List ℕ) → Marks starts at → Visits (λ i. (i < at) × Marks starts i) allowed a u
-      b v → Visits (λ i. i ≡ at) allowed b v c w → Visits (λ i. (i < at + 1) × Marks starts i) allowed a u c w
-  visits_start starts at a b c u v w start h k =
-      visits_more (λ i. (i < at) × Marks starts i) (λ i. i ≡ at) (λ i. (i < at + 1) × Marks starts i) a b c u v w h k
-      (λ i m. either (cases_eq i at) (λ e. inr e) (λ n. inl (omega (arith, m.0, n), m.1)))
-      (λ i m. (omega (arith, m.0), m.1))
-      (λ i e. (omega (arith, e), subst (λ j. Marks starts j) (sym e) start))
-
-  pub visits_no_start : (starts : List Bool) (at : ℕ) (a b : List Bool) (u v : List ℕ) → ¬ Marks starts at → Visits (λ i. (i < at) × Marks starts i) allowed a u
-      b v → Visits (λ i. (i < at + 1) × Marks starts i) allowed a u b v
-  visits_no_start starts at a b u v none h =
-      visits_more (λ i. (i < at) × Marks starts i) (λ i. ⊥) (λ i. (i < at + 1) × Marks starts i) a b b u v v h (visits_nothing (λ i. ⊥) b v (λ i f. f))
-      (λ i m. either (cases_eq i at) (λ e. absurd (none (subst (λ j. Marks starts j) e m.1))) (λ n. inl (omega (arith, m.0, n), m.1)))
-      (λ i m. (omega (arith, m.0), m.1))
-      (λ i f. absurd f)
-
-  -- all starts
-  pub visits_all : (starts : List Bool) (at : ℕ) (a b : List Bool) (u v : List ℕ) → length starts ≤ at → Visits (λ i. (i < at) × Marks starts i) allowed a u b v → Visits (Marks starts) allowed a u b v
-  visits_all starts at a b u v end h =
-      visits_more (λ i. (i < at) × Marks starts i) (λ i. ⊥) (Marks starts) a b b u v v h (visits_nothing (λ i. ⊥) b v (λ i f. f))
-      (λ i m. inl (omega (arith, slice_get_within starts i true m, end), m)) (λ i m. m.1) (λ i f. absurd f)
 
 -- The search so far: each marked place is led to, and the places not followed yet wait.
 pub record Searches (starts allowed : List Bool) (rows : List (List ℕ)) (marks : List Bool) (waits : List ℕ) : Type 0 where

@@ -13,7 +13,7 @@ use Rattle.cg_graph.proofs.Members.{either, cases_of, Includes-append_left, Incl
 use Rattle.cg_search.specs.Places.{Marks, is_marked, StartsAt, steps_of}
 use Rattle.cg_search.specs.Walks.{Findings, objects_in, Finds, IsStart, HasSpread, IsOver, Agree}
 use Rattle.cg_search.proofs.Places.{slice_get-set_same, slice_get-set_other, unmarked}
-use Rattle.cg_search.proofs.Trails.{finds_none, finds_new, finds_present, start_more, start_same, start_none, spread_more, objects_append, get_in}
+use Rattle.cg_search.proofs.Trails.{finds_none, finds_new, finds_present, start_more, start_same, spread_more, objects_append, get_in}
 use Rattle.cg_search.proofs.Edges.{step_in, step_out, marks_of_is, is_of_marks}
 
 differs : ◌≡◌ {A = Option Bool} (Some false) (Some true) → ⊥
@@ -125,9 +125,6 @@ finds_next allowed old mid new row k holder within a b =
 -- The starts below a place are found.
 abbrev pub StartsBelow : List Bool → List Bool → ℕ → ℕ → Type 0
 StartsBelow starts allowed at i = (i < at) × StartsAt starts allowed i
-
-pub starts_none : (starts allowed : List Bool) (found : Findings) → found ≡ [] → IsStart (StartsBelow starts allowed 0) found
-starts_none starts allowed found is = subst (λ (es : Findings). IsStart (StartsBelow starts allowed 0) es) (sym is) (start_none (StartsBelow starts allowed 0) (λ o h. absurd (omega (arith, h.0))))
 
 pub starts_more : (starts allowed : List Bool) (at : ℕ) (old new : Findings) → get_or starts at false ≡ true → IsStart (StartsBelow starts allowed at) old
     → Finds old (filter (is_marked allowed) (at ∷ [])) None new → IsStart (StartsBelow starts allowed (at + 1)) new

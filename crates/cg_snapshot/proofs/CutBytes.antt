@@ -1,9 +1,10 @@
 -- Bytes cut at the first position of a byte.
-use Rattle.std.proofs.Common.{◌≡◌, ◌≢◌, refl, sym, ◌∙◌, ap, ℕ, zero, suc, ◌+◌, ◌-◌, ◌<◌, Bool, true, false, not, ◌==◌, ◌&&◌, List, [], ◌∷◌, ◌++◌, length, get_or, take, drop, arith, length-drop}
+use Rattle.std.proofs.Common.{◌≡◌, ◌≢◌, refl, sym, ◌∙◌, ap, ℕ, zero, suc, ◌+◌, ◌-◌, ◌<◌, true, not, ◌==◌, List, [], ◌∷◌, ◌++◌, length, get_or, take, drop, arith, length-drop}
 use Rattle.std.proofs.Math.Seq.{take-length}
 use Rattle.std.specs.List.{list_all}
 use Rattle.std.proofs.lemmas.Bool.{eq-eqb}
 use Rattle.cg_snapshot.specs.Rows.{Lacks, IsTail}
+use Rattle.cg_graph.proofs.Members.{true_and}
 
 -- nothing, or this byte and the bytes after it
 abbrev pub IsAt : ℕ → List ℕ → Type 0
@@ -24,28 +25,23 @@ heads a b x y e = (cc, cc)
 -- cutting at the first position of a byte is unique
 pub cut_once : (s : ℕ) (w v x y : List ℕ) → Lacks s w → Lacks s v → IsAt s x → IsAt s y → w ++ x ≡ v ++ y → (w ≡ v) × (x ≡ y)
 cut_once s [] [] x y p q a b e = (refl, e)
-cut_once s [] (c ∷ v) [] y p q a b e = absurd (cc)
 cut_once s [] (c ∷ v) (d ∷ x) y p q a b e = absurd (q.0 (sym (heads d c x (v ++ y) e).0 ∙ a))
-cut_once s (c ∷ w) [] x [] p q a b e = absurd (cc)
 cut_once s (c ∷ w) [] x (d ∷ y) p q a b e = absurd (p.0 ((heads c d (w ++ x) y e).0 ∙ b))
 cut_once s (c ∷ w) (d ∷ v) x y p q a b e =
     let parts = heads c d (w ++ x) (v ++ y) e in
     let rest = cut_once s w v x y p.1 q.1 a b parts.1 in
     (ap (λ h. h ∷ w) parts.0 ∙ ap (λ t. d ∷ t) rest.0, rest.1)
+cut_once s xs list x y p q a b e = absurd (cc)
 
 pub lacks_append : (s : ℕ) (xs ys : List ℕ) → Lacks s xs → Lacks s ys → Lacks s (xs ++ ys)
 lacks_append s [] ys p q = q
 lacks_append s (x ∷ xs) ys p q = (p.0, lacks_append s xs ys p.1 q)
 
-both : (a b : Bool) → (a && b) ≡ true → (a ≡ true) × (b ≡ true)
-both true b h = (refl, h)
-both false b h = absurd (cc)
-
 -- what a test says of a text
 pub lacks_of : (s : ℕ) (bytes : List ℕ) → list_all (λ b. not (b == s)) bytes ≡ true → Lacks s bytes
 lacks_of s [] h = tt
 lacks_of s (b ∷ bytes) h =
-    let parts = both (not (b == s)) (list_all (λ c. not (c == s)) bytes) h in
+    let parts = true_and (not (b == s)) (list_all (λ c. not (c == s)) bytes) h in
     (λ e. absurd (let yes = eq-eqb b s e in let no : not (b == s) ≡ true = parts.0 in let clash : not true ≡ true = ap not (sym yes) ∙ no in cc), lacks_of s bytes parts.1)
 
 -- a byte between others

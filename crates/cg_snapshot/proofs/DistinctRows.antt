@@ -1,6 +1,7 @@
 -- No two lists of words share a line.
 use Rattle.std.proofs.Common.{◌≡◌, refl, sym, ◌∙◌, ap, subst, ℕ, cond, List, [], ◌∷◌, ◌++◌, length, Option, Some, None}
 use Rattle.std.specs.Prelude.{◌==◌, IfSome, IfNone}
+use Rattle.std.proofs.lemmas.Option.{same_Some}
 use Rattle.cg_snapshot.specs.declared.row.Kind.{Kind}
 use Rattle.cg_snapshot.specs.declared.row.Kind.TheVariants as kinds
 use Rattle.cg_snapshot.specs.declared.row.Row.{Row}
@@ -23,15 +24,7 @@ kind_in (b ∷ bs) =
 
 kind_back : (k : Kind) → kind_in (kind_text k) ≡ Some k
 kind_back kinds.Heap = refl
-kind_back kinds.Member = refl
-kind_back kinds.Words = refl
-kind_back kinds.End = refl
-kind_back kinds.Why = refl
-kind_back kinds.Referrers = refl
-kind_back kinds.Hidden = refl
-kind_back kinds.Lost = refl
-kind_back kinds.Dropped = refl
-kind_back kinds.Untold = refl
+kind_back word = refl
 
 same_some : (a b : Kind) → Some a ≡ Some b → a ≡ b
 same_some a b e = cc
@@ -41,27 +34,11 @@ one_kind a b e = same_some a b (sym (kind_back a) ∙ ap kind_in e ∙ kind_back
 
 pub kind_lacks : (k : Kind) → Lacks 32 (kind_text k)
 kind_lacks kinds.Heap = lacks_of 32 (kind_text kinds.Heap) refl
-kind_lacks kinds.Member = lacks_of 32 (kind_text kinds.Member) refl
-kind_lacks kinds.Words = lacks_of 32 (kind_text kinds.Words) refl
-kind_lacks kinds.End = lacks_of 32 (kind_text kinds.End) refl
-kind_lacks kinds.Why = lacks_of 32 (kind_text kinds.Why) refl
-kind_lacks kinds.Referrers = lacks_of 32 (kind_text kinds.Referrers) refl
-kind_lacks kinds.Hidden = lacks_of 32 (kind_text kinds.Hidden) refl
-kind_lacks kinds.Lost = lacks_of 32 (kind_text kinds.Lost) refl
-kind_lacks kinds.Dropped = lacks_of 32 (kind_text kinds.Dropped) refl
-kind_lacks kinds.Untold = lacks_of 32 (kind_text kinds.Untold) refl
+kind_lacks word = lacks_of 32 (kind_text word) refl
 
 kind_no_feed : (k : Kind) → Lacks 10 (kind_text k)
 kind_no_feed kinds.Heap = lacks_of 10 (kind_text kinds.Heap) refl
-kind_no_feed kinds.Member = lacks_of 10 (kind_text kinds.Member) refl
-kind_no_feed kinds.Words = lacks_of 10 (kind_text kinds.Words) refl
-kind_no_feed kinds.End = lacks_of 10 (kind_text kinds.End) refl
-kind_no_feed kinds.Why = lacks_of 10 (kind_text kinds.Why) refl
-kind_no_feed kinds.Referrers = lacks_of 10 (kind_text kinds.Referrers) refl
-kind_no_feed kinds.Hidden = lacks_of 10 (kind_text kinds.Hidden) refl
-kind_no_feed kinds.Lost = lacks_of 10 (kind_text kinds.Lost) refl
-kind_no_feed kinds.Dropped = lacks_of 10 (kind_text kinds.Dropped) refl
-kind_no_feed kinds.Untold = lacks_of 10 (kind_text kinds.Untold) refl
+kind_no_feed word = lacks_of 10 (kind_text word) refl
 
 -- a line contains no line feed
 pub row_lacks : (r : Row) → IsRow r → Lacks 10 (raw_of r)
@@ -92,17 +69,10 @@ one_row a b p q e =
     let ns = one_numbers a.numbers b.numbers (but_text a.but) (but_text b.but) p.numbers q.numbers (but_tail a.but) (but_tail b.but) (but_stops a.but) (but_stops b.but) cut.1 in
     same_row a.kind b.kind a.numbers b.numbers a.but b.but (one_kind a.kind b.kind cut.0) ns.0 (one_but a.but b.but p.but q.but ns.1)
 
--- the parts of a line
-pub row_text : (raw word tail rest : List ℕ) (k : Kind) (ns but : List ℕ) → raw ≡ word ++ tail → word ≡ kind_text k → tail ≡ all_spaced ns ++ rest → rest ≡ but_text but → raw ≡ raw_of (row k ns but)
-row_text raw word tail rest k ns but whole is e f = whole ∙ ap (λ w. w ++ tail) is ∙ ap (λ t. kind_text k ++ t) (e ∙ ap (λ r. all_spaced ns ++ r) f)
-
-same_there : {A : Type 0} (a b : A) → Some a ≡ Some b → a ≡ b
-same_there a b f = cc
-
 -- facts about present and missing options
 pub if_some : {A : Type 0} (o : Option A) (x : A) (P : A → Type 0) → o ≡ Some x → IfSome o P → P x
 if_some None x P e h = absurd (cc)
-if_some (Some y) x P e h = subst P (same_there y x e) h
+if_some (Some y) x P e h = subst P (same_Some y x e) h
 
 pub if_none : {A : Type 0} (o : Option A) (P : Type 0) → o ≡ None → IfNone o P → P
 if_none None P e h = h

@@ -1,16 +1,16 @@
 -- Reading the lines of a snapshot one by one gives this snapshot.
-use Rattle.std.proofs.Common.{◌≡◌, refl, sym, ◌∙◌, ap, ℕ, ◌<◌, Bool, true, false, cond, not, nat_lt, ◌&&◌, List, [], ◌∷◌, ◌++◌, length, map, Option, Some, None, append_assoc, append-nil}
+use Rattle.std.proofs.Common.{◌≡◌, refl, sym, ◌∙◌, ap, ℕ, ◌<◌, Bool, true, false, cond, not, nat_lt, ◌&&◌, List, [], ◌∷◌, ◌++◌, length, map, Some, None, append_assoc, append-nil}
 use Rattle.std.specs.Prelude.{flat_map, option_map}
 use Rattle.std.specs.List.{AllByRecursion}
 use Rattle.std.proofs.lemmas.Bool.{ltb-true, lt-ltb}
 use Rattle.cg_records.specs.Lists.{none_in}
+use Rattle.cg_records.proofs.Runs.{then, run, chain}
 use Rattle.cg_graph.specs.Member.{includes}
-use Rattle.cg_graph.proofs.Members.{Includes-of, includes-of}
+use Rattle.cg_graph.proofs.Members.{Includes-of, includes-of, true_and}
 use Rattle.cg_snapshot.specs.declared.heap.Member.{Member}
 use Rattle.cg_snapshot.specs.declared.question.Question.{Question}
-use Rattle.cg_snapshot.specs.declared.question.Question.TheVariants.{Why, Referrers, Hidden, Lost, Dropped, Untold}
+use Rattle.cg_snapshot.specs.declared.question.Question.TheVariants.{Why, Referrers, Dropped}
 use Rattle.cg_snapshot.specs.declared.reading.Snapshot.{Snapshot}
-use Rattle.cg_snapshot.specs.declared.line.Line.{Line}
 use Rattle.cg_snapshot.specs.declared.line.Line.TheVariants as lines
 use Rattle.cg_snapshot.specs.declared.draft.Stage.TheVariants.{Before, Inside, Behind}
 use Rattle.cg_snapshot.specs.declared.draft.Draft.{Draft}
@@ -19,40 +19,12 @@ use Rattle.cg_snapshot.specs.Reading.{draft, are_below, is_asked, step}
 use Rattle.cg_snapshot.specs.Lines.{untold_lines, member_lines, lines_of}
 use Rattle.cg_snapshot.specs.Text.{AreMembers, IsAsked}
 
-abbrev pub then : Option Draft → (Draft → Option Draft) → Option Draft
-then None f = None
-then (Some d) f = f d
-
--- the draft after some lines, if each is allowed where it is
-abbrev pub run : Draft → List Line → Option Draft
-run d [] = Some d
-run d (l ∷ ls) = then (step d l) (λ e. run e ls)
-
 abbrev pub start : Draft
 start = draft [] [] Before
 
-then_then : (o : Option Draft) (f g h : Draft → Option Draft) → ((d : Draft) → f d ≡ then (g d) h) → then o f ≡ then (then o g) h
-then_then None f g h same = refl
-then_then (Some d) f g h same = same d
-
-run-append : (d : Draft) (xs ys : List Line) → run d (xs ++ ys) ≡ then (run d xs) (λ e. run e ys)
-run-append d [] ys = refl
-run-append d (x ∷ xs) ys = then_then (step d x) (λ e. run e (xs ++ ys)) (λ e. run e xs) (λ e. run e ys) (λ e. run-append e xs ys)
-
--- runs compose
-pub chain : (d e : Draft) (xs ys : List Line) (o : Option Draft) → run d xs ≡ Some e → run e ys ≡ o → run d (xs ++ ys) ≡ o
-chain d e xs ys o p q = run-append d xs ys ∙ ap (λ r. then r (λ f. run f ys)) p ∙ q
-
-pub goes_on : (d e f : Draft) (xs : List Line) (l : Line) → run d xs ≡ Some e → step e l ≡ Some f → run d (xs ++ l ∷ []) ≡ Some f
-goes_on d e f xs l p q = chain d e xs (l ∷ []) (Some f) p (ap (λ r. then r (λ g. Some g)) q)
-
-pub is_stuck : (d e : Draft) (xs ys : List Line) (l : Line) → run d xs ≡ Some e → step e l ≡ None → run d (xs ++ l ∷ ys) ≡ None
-is_stuck d e xs ys l p q = chain d e xs (l ∷ ys) None p (ap (λ r. then r (λ g. run g ys)) q)
-
 untold-last : (ms : List Member) (d s : ℕ) (t l : Bool) (refs words : List ℕ) → with_untold (ms ++ member d s t l refs [] ∷ []) words ≡ Some (ms ++ member d s t l refs words ∷ [])
-untold-last [] d s t l refs words = refl
-untold-last (m ∷ []) d s t l refs words = refl
 untold-last (m ∷ k ∷ ms) d s t l refs words = ap (option_map (λ rest. m ∷ rest)) (untold-last (k ∷ ms) d s t l refs words)
+untold-last xs d s t l refs words = refl
 
 -- the last member had untold words
 pub untold_had : (ms : List Member) (m : Member) (words : List ℕ) → none_in m.untold ≡ false → with_untold (ms ++ m ∷ []) words ≡ None
@@ -75,26 +47,22 @@ untold_given [] m words none = ap (option_map (λ k. k ∷ [])) (by m.untold non
 untold_given (k ∷ []) m words none = ap (option_map (λ rest. k ∷ rest)) (untold_given [] m words none)
 untold_given (k ∷ l ∷ ms) m words none = ap (option_map (λ rest. k ∷ rest)) (untold_given (l ∷ ms) m words none)
 
-run_untold : (ms : List Member) (qs : List Question) (d s : ℕ) (t l : Bool) (refs words : List ℕ) → run (draft (ms ++ member d s t l refs [] ∷ []) qs Inside)
+run_untold : (ms : List Member) (qs : List Question) (d s : ℕ) (t l : Bool) (refs words : List ℕ) → run step (draft (ms ++ member d s t l refs [] ∷ []) qs Inside)
     (untold_lines words) ≡ Some (draft (ms ++ member d s t l refs words ∷ []) qs Inside)
 run_untold ms qs d s t l refs [] = refl
 run_untold ms qs d s t l refs (n ∷ ns) = ap (λ o. then (option_map (λ ks. draft ks qs Inside) o) (λ e. Some e)) (untold-last ms d s t l refs (n ∷ ns))
 
-run_members : (done ms : List Member) (qs : List Question) → run (draft done qs Inside) (flat_map member_lines ms) ≡ Some (draft (done ++ ms) qs Inside)
+run_members : (done ms : List Member) (qs : List Question) → run step (draft done qs Inside) (flat_map member_lines ms) ≡ Some (draft (done ++ ms) qs Inside)
 run_members done [] qs = ap (λ l. Some (draft l qs Inside)) (sym (append-nil done))
 run_members done (m ∷ ms) qs =
-    chain (draft (done ++ member m.degree m.size m.tracked m.legacy m.refs [] ∷ []) qs Inside) (draft (done ++ m ∷ []) qs Inside) (untold_lines m.untold)
+    chain step (draft (done ++ member m.degree m.size m.tracked m.legacy m.refs [] ∷ []) qs Inside) (draft (done ++ m ∷ []) qs Inside) (untold_lines m.untold)
     (flat_map member_lines ms) (Some (draft (done ++ m ∷ ms) qs Inside))
     (run_untold done qs m.degree m.size m.tracked m.legacy m.refs m.untold)
     (run_members (done ++ m ∷ []) ms qs ∙ ap (λ l. Some (draft l qs Inside)) (append_assoc done (m ∷ []) ms))
 
-are_true : (a b : Bool) → a ≡ true → b ≡ true → (a && b) ≡ true
+pub are_true : (a b : Bool) → a ≡ true → b ≡ true → (a && b) ≡ true
 are_true true b p q = q
 are_true false b p q = absurd (cc)
-
-both : (a b : Bool) → (a && b) ≡ true → (a ≡ true) × (b ≡ true)
-both true b h = (refl, h)
-both false b h = absurd (cc)
 
 -- the test decides whether the numbers are those of members
 pub below_of : (count : ℕ) (ns : List ℕ) → AreMembers count ns → are_below count ns ≡ true
@@ -103,7 +71,7 @@ below_of count (n ∷ ns) h = are_true (nat_lt n count) (are_below count ns) (lt
 
 pub of_below : (count : ℕ) (ns : List ℕ) → are_below count ns ≡ true → AreMembers count ns
 of_below count [] h = tt
-of_below count (n ∷ ns) h = let parts = both (nat_lt n count) (are_below count ns) h in (ltb-true n count parts.0, of_below count ns parts.1)
+of_below count (n ∷ ns) h = let parts = true_and (nat_lt n count) (are_below count ns) h in (ltb-true n count parts.0, of_below count ns parts.1)
 
 absent : (b : Bool) → (b ≡ true → ⊥) → not b ≡ true
 absent true h = absurd (h refl)
@@ -117,39 +85,31 @@ asked_of count (Why n but) h =
     are_true (nat_lt n count) (are_below count but && not (includes but n)) (lt-ltb n count h.0)
     (are_true (are_below count but) (not (includes but n)) (below_of count but h.1) (absent (includes but n) (λ e. h.2 (Includes-of but n e))))
 asked_of count (Referrers n) h = lt-ltb n count h
-asked_of count Hidden h = refl
-asked_of count Lost h = refl
 asked_of count (Dropped ns) h = below_of count ns h.1
-asked_of count Untold h = refl
+asked_of count other h = refl
 
 -- a question with members to drop
 abbrev pub HasNumbers : Question → Type 0
-HasNumbers (Why n but) = Unit {0}
-HasNumbers (Referrers n) = Unit {0}
-HasNumbers Hidden = Unit {0}
-HasNumbers Lost = Unit {0}
 HasNumbers (Dropped ns) = 0 < length ns
-HasNumbers Untold = Unit {0}
+HasNumbers other = Unit {0}
 
 pub of_asked : (count : ℕ) (q : Question) → HasNumbers q → is_asked count q ≡ true → IsAsked count q
 of_asked count (Why n but) some h =
-    let parts = both (nat_lt n count) (are_below count but && not (includes but n)) h in
-    let rest = both (are_below count but) (not (includes but n)) parts.1 in
+    let parts = true_and (nat_lt n count) (are_below count but && not (includes but n)) h in
+    let rest = true_and (are_below count but) (not (includes but n)) parts.1 in
     (ltb-true n count parts.0, of_below count but rest.0, λ m. is_absent (includes but n) rest.1 (includes-of but n m))
 of_asked count (Referrers n) some h = ltb-true n count h
-of_asked count Hidden some h = tt
-of_asked count Lost some h = tt
 of_asked count (Dropped ns) some h = (some, of_below count ns h)
-of_asked count Untold some h = tt
+of_asked count other some h = tt
 
-run_questions : (ms : List Member) (done qs : List Question) → AllByRecursion (IsAsked (length ms)) qs → run (draft ms done Behind) (map lines.Asks qs) ≡ Some (draft ms (done ++ qs) Behind)
+run_questions : (ms : List Member) (done qs : List Question) → AllByRecursion (IsAsked (length ms)) qs → run step (draft ms done Behind) (map lines.Asks qs) ≡ Some (draft ms (done ++ qs) Behind)
 run_questions ms done [] h = ap (λ l. Some (draft ms l Behind)) (sym (append-nil done))
 run_questions ms done (q ∷ qs) h =
-    ap (λ b. then (cond b (Some (draft ms (done ++ q ∷ []) Behind)) None) (λ e. run e (map lines.Asks qs))) (asked_of (length ms) q h.0)
+    ap (λ b. then (cond b (Some (draft ms (done ++ q ∷ []) Behind)) None) (λ e. run step e (map lines.Asks qs))) (asked_of (length ms) q h.0)
     ∙ run_questions ms (done ++ q ∷ []) qs h.1 ∙ ap (λ l. Some (draft ms l Behind)) (append_assoc done (q ∷ []) qs)
 
 -- the lines of a snapshot give it
-pub run-lines_of : (s : Snapshot) → AllByRecursion (IsAsked (length s.members)) s.questions → run start (lines_of s) ≡ Some (draft s.members s.questions Behind)
+pub run-lines_of : (s : Snapshot) → AllByRecursion (IsAsked (length s.members)) s.questions → run step start (lines_of s) ≡ Some (draft s.members s.questions Behind)
 run-lines_of s h =
-    chain (draft [] [] Inside) (draft s.members [] Inside) (flat_map member_lines s.members) (lines.Closes ∷ map lines.Asks s.questions) (Some (draft s.members s.questions Behind))
+    chain step (draft [] [] Inside) (draft s.members [] Inside) (flat_map member_lines s.members) (lines.Closes ∷ map lines.Asks s.questions) (Some (draft s.members s.questions Behind))
     (run_members [] s.members []) (run_questions s.members [] s.questions h)

@@ -1,7 +1,8 @@
 -- What words say is what a line says, and conversely.
-use Rattle.std.proofs.Common.{◌≡◌, ◌≢◌, refl, sym, ◌∙◌, ap, subst, ℕ, zero, suc, ◌<◌, ◌≤◌, ◌^◌, Bool, true, false, cond, nat_lt, List, [], ◌∷◌, length, get_or, drop, Option, Some, None, arith}
+use Rattle.std.proofs.Common.{◌≡◌, ◌≢◌, refl, sym, ◌∙◌, ap, subst, ℕ, zero, suc, ◌<◌, ◌^◌, Bool, true, false, cond, nat_lt, List, [], ◌∷◌, length, Option, Some, None, arith}
 use Rattle.std.specs.Prelude.{option_map, option_and_then, IfSome, IfNone}
 use Rattle.std.proofs.lemmas.Bool.{ltb-true, lt-ltb}
+use Rattle.std.proofs.lemmas.Option.{same_Some}
 use Rattle.cg_records.specs.Lists.{none_in}
 use Rattle.cg_snapshot.specs.declared.question.Question.{Question}
 use Rattle.cg_snapshot.specs.declared.question.Question.TheVariants.{Why, Referrers, Hidden, Lost, Dropped, Untold}
@@ -13,7 +14,7 @@ use Rattle.cg_snapshot.specs.declared.line.Line.TheVariants as lines
 use Rattle.cg_snapshot.specs.Rows.{raw_of, AreSmall, IsRow}
 use Rattle.cg_snapshot.specs.Text.{flag}
 use Rattle.cg_snapshot.specs.Lines.{row, row_of, raw_line, IsLine, IsSmallQuestion}
-use Rattle.cg_snapshot.specs.Meant.{mark_in, only, bare_line, told, meant_member, meant_plain, meant_but, meant}
+use Rattle.cg_snapshot.specs.Meant.{mark_in, only, bare_line, told, meant_member, meant_plain, meant}
 use Rattle.cg_snapshot.proofs.DistinctRows.{one_row}
 
 flag_back : (b : Bool) → mark_in (flag b) ≡ Some b
@@ -30,25 +31,18 @@ some_numbers : (f : List ℕ → Line) (ns : List ℕ) → 0 < length ns → con
 some_numbers f [] h = absurd (omega (arith, h))
 some_numbers f (n ∷ ns) h = refl
 
-why_back : (n : ℕ) (but : List ℕ) → meant (row kinds.Why (n ∷ []) but) ≡ Some (lines.Asks (Why n but))
-why_back n [] = refl
-why_back n (m ∷ but) = refl
-
 question_back : (q : Question) → IsSmallQuestion q → meant (row_of (lines.Asks q)) ≡ Some (lines.Asks q)
-question_back (Why n but) h = why_back n but
-question_back (Referrers n) h = refl
-question_back Hidden h = refl
-question_back Lost h = refl
+question_back (Why n []) h = refl
+question_back (Why n (m ∷ but)) h = refl
 question_back (Dropped ns) h = some_numbers (λ ms. lines.Asks (Dropped ms)) ns h.0
-question_back Untold h = refl
+question_back other h = refl
 
 -- reading the words of a line gives the line
 pub meant_back : (l : Line) → IsLine l → meant (row_of l) ≡ Some l
-meant_back lines.Opens h = refl
 meant_back (lines.Tells d s t l refs) h = told_back d s t l refs h.1
 meant_back (lines.Adds ns) h = some_numbers lines.Adds ns h.0
-meant_back lines.Closes h = refl
 meant_back (lines.Asks q) h = question_back q h
+meant_back line h = refl
 
 flag_small : (b : Bool) → flag b < 2 ^ 64
 flag_small true = omega arith
@@ -57,54 +51,40 @@ flag_small false = omega arith
 question_row : (q : Question) → IsSmallQuestion q → IsRow (row_of (lines.Asks q))
 question_row (Why n but) h = record { numbers = (h.0, tt); but = h.1 }
 question_row (Referrers n) h = record { numbers = (h, tt); but = tt }
-question_row Hidden h = record { numbers = tt; but = tt }
-question_row Lost h = record { numbers = tt; but = tt }
 question_row (Dropped ns) h = record { numbers = h.1; but = tt }
-question_row Untold h = record { numbers = tt; but = tt }
+question_row other h = record { numbers = tt; but = tt }
 
 -- the words of a line have small numbers
 pub line_row : (l : Line) → IsLine l → IsRow (row_of l)
-line_row lines.Opens h = record { numbers = tt; but = tt }
 line_row (lines.Tells d s t l refs) h = record { numbers = (h.0, (omega (arith, h.1), (flag_small t, (flag_small l, h.2)))); but = tt }
 line_row (lines.Adds ns) h = record { numbers = h.1; but = tt }
-line_row lines.Closes h = record { numbers = tt; but = tt }
 line_row (lines.Asks q) h = question_row q h
+line_row line h = record { numbers = tt; but = tt }
 
 -- The line read has these words.
 pub record Reads (k : Kind) (ns but : List ℕ) (l : Line) : Type 0 where
   pub row : row_of l ≡ row k ns but
   pub fits : IsLine l
 
-same_some : {X : Type 0} (a b : X) → Some a ≡ Some b → a ≡ b
-same_some a b e = cc
-
 moved : (k : Kind) (ns but : List ℕ) (a b : Line) → Some a ≡ Some b → Reads k ns but a → Reads k ns but b
-moved k ns but a b e h = subst (λ (l : Line). Reads k ns but l) (same_some a b e) h
+moved k ns but a b e h = subst (λ (l : Line). Reads k ns but l) (same_Some a b e) h
 
 mark_says : (n : ℕ) (b : Bool) → mark_in n ≡ Some b → n ≡ flag b
-mark_says zero b e = ap flag (same_some false b e)
-mark_says (suc zero) b e = ap flag (same_some true b e)
+mark_says zero b e = ap flag (same_Some false b e)
+mark_says (suc zero) b e = ap flag (same_Some true b e)
 mark_says (suc (suc n)) b e = absurd (cc)
 
-told_says : (d s t l : ℕ) (refs : List ℕ) (line : Line) → AreSmall (d ∷ s ∷ t ∷ l ∷ refs) → told d s t l refs ≡ Some line → Reads kinds.Member (d ∷ s ∷ t ∷ l ∷ refs) [] line
-told_says d s t l refs line small e = by (nat_lt s (2 ^ 36)) refl (mark_in t) refl (mark_in l) refl e
+member_says : (ns : List ℕ) (line : Line) → AreSmall ns → meant_member ns ≡ Some line → Reads kinds.Member ns [] line
+member_says (d ∷ s ∷ t ∷ l ∷ refs) line small e = by (nat_lt s (2 ^ 36)) refl (mark_in t) refl (mark_in l) refl e
   where
     by : (b : Bool) → nat_lt s (2 ^ 36) ≡ b → (o : Option Bool) → mark_in t ≡ o → (p : Option Bool) → mark_in l ≡ p
         → cond b (option_and_then (λ u. option_map (λ v. lines.Tells d s u v refs) p) o) None ≡ Some line → Reads kinds.Member (d ∷ s ∷ t ∷ l ∷ refs) [] line
-    by false is o x p y f = absurd (cc)
-    by true is None x p y f = absurd (cc)
-    by true is (Some u) x None y f = absurd (cc)
     by true is (Some u) x (Some v) y f = moved kinds.Member (d ∷ s ∷ t ∷ l ∷ refs) [] (lines.Tells d s u v refs) line f (record {
       row = ap (λ n. row kinds.Member (d ∷ s ∷ n ∷ flag v ∷ refs) []) (sym (mark_says t u x)) ∙ ap (λ n. row kinds.Member (d ∷ s ∷ t ∷ n ∷ refs) []) (sym (mark_says l v y));
       fits = (small.0, ltb-true s (2 ^ 36) is, small.1.1.1.1);
     })
-
-member_says : (ns : List ℕ) (line : Line) → AreSmall ns → meant_member ns ≡ Some line → Reads kinds.Member ns [] line
-member_says [] line small e = absurd (cc)
-member_says (a ∷ []) line small e = absurd (cc)
-member_says (a ∷ b ∷ []) line small e = absurd (cc)
-member_says (a ∷ b ∷ c ∷ []) line small e = absurd (cc)
-member_says (d ∷ s ∷ t ∷ l ∷ refs) line small e = told_says d s t l refs line small e
+    by b is o x p y f = absurd (cc)
+member_says xs line small e = absurd (cc)
 
 bare_says : (k : Kind) (a : Line) → Reads k [] [] a → (ns : List ℕ) (line : Line) → bare_line a ns ≡ Some line → Reads k ns [] line
 bare_says k a h [] line e = moved k [] [] a line e h
@@ -117,9 +97,8 @@ some_says k f h (n ∷ ns) line small e = moved k (n ∷ ns) [] (f (n ∷ ns)) l
 
 one_says : (k : Kind) (but : List ℕ) (f : ℕ → Line) → ((n : ℕ) → n < 2 ^ 64 → Reads k (n ∷ []) but (f n)) → (ns : List ℕ) (line : Line) → AreSmall ns
     → option_map f (only ns) ≡ Some line → Reads k ns but line
-one_says k but f h [] line small e = absurd (cc)
 one_says k but f h (n ∷ []) line small e = moved k (n ∷ []) but (f n) line e (h n small.0)
-one_says k but f h (n ∷ m ∷ ns) line small e = absurd (cc)
+one_says k but f h xs line small e = absurd (cc)
 
 plain_says : (k : Kind) (ns : List ℕ) (line : Line) → AreSmall ns → meant_plain k ns ≡ Some line → Reads k ns [] line
 plain_says kinds.Heap ns line small e = bare_says kinds.Heap lines.Opens (record { row = refl; fits = tt }) ns line e
@@ -133,25 +112,14 @@ plain_says kinds.Lost ns line small e = bare_says kinds.Lost (lines.Asks Lost) (
 plain_says kinds.Dropped ns line small e = some_says kinds.Dropped (λ ms. lines.Asks (Dropped ms)) (λ ms some are. record { row = refl; fits = (some, are) }) ns line small e
 plain_says kinds.Untold ns line small e = bare_says kinds.Untold (lines.Asks Untold) (record { row = refl; fits = tt }) ns line e
 
-but_says : (k : Kind) (ns but : List ℕ) (line : Line) → AreSmall ns → AreSmall but → meant_but k ns but ≡ Some line → Reads k ns but line
-but_says kinds.Heap ns but line small are e = absurd (cc)
-but_says kinds.Member ns but line small are e = absurd (cc)
-but_says kinds.Words ns but line small are e = absurd (cc)
-but_says kinds.End ns but line small are e = absurd (cc)
-but_says kinds.Why ns but line small are e = one_says kinds.Why but (λ n. lines.Asks (Why n but)) (λ n is. record { row = refl; fits = (is, are) }) ns line small e
-but_says kinds.Referrers ns but line small are e = absurd (cc)
-but_says kinds.Hidden ns but line small are e = absurd (cc)
-but_says kinds.Lost ns but line small are e = absurd (cc)
-but_says kinds.Dropped ns but line small are e = absurd (cc)
-but_says kinds.Untold ns but line small are e = absurd (cc)
-
 words_say : (k : Kind) (ns but : List ℕ) (line : Line) → AreSmall ns → AreSmall but → meant (row k ns but) ≡ Some line → Reads k ns but line
 words_say k ns [] line small are e = plain_says k ns line small e
-words_say k ns (m ∷ but) line small are e = but_says k ns (m ∷ but) line small are e
+words_say kinds.Why ns (m ∷ but) line small are e = one_says kinds.Why (m ∷ but) (λ n. lines.Asks (Why n (m ∷ but))) (λ n is. record { row = refl; fits = (is, are) }) ns line small e
+words_say k ns (m ∷ but) line small are e = absurd (cc)
 
 -- no two lines share a text
 pub one_line : (a b : Line) → IsLine a → IsLine b → raw_line a ≡ raw_line b → a ≡ b
-one_line a b p q e = same_some a b (sym (meant_back a p) ∙ ap meant (one_row (row_of a) (row_of b) (line_row a p) (line_row b q) e) ∙ meant_back b q)
+one_line a b p q e = same_Some a b (sym (meant_back a p) ∙ ap meant (one_row (row_of a) (row_of b) (line_row a p) (line_row b q) e) ∙ meant_back b q)
 
 -- a line that was read
 module _ (raw : List ℕ) (r : Row) (is : raw ≡ raw_of r) (fits : IsRow r) where
@@ -172,28 +140,3 @@ module _ (raw : List ℕ) (r : Row) (is : raw ≡ raw_of r) (fits : IsRow r) whe
 
 pub no_row : (raw : List ℕ) → ((r : Row) → IsRow r → raw ≢ raw_of r) → (l : Line) → IsLine l → raw ≢ raw_line l
 no_row raw none l line same = none (row_of l) (line_row l line) same
-
--- numbers of a member line
-pub few_numbers : (ns : List ℕ) → length ns < 4 → meant_member ns ≡ None
-few_numbers [] h = refl
-few_numbers (a ∷ []) h = refl
-few_numbers (a ∷ b ∷ []) h = refl
-few_numbers (a ∷ b ∷ c ∷ []) h = refl
-few_numbers (a ∷ b ∷ c ∷ d ∷ ns) h = absurd (omega (arith, h))
-
-pub four_numbers : (ns : List ℕ) → 4 ≤ length ns → meant_member ns ≡ told (get_or ns 0 0) (get_or ns 1 0) (get_or ns 2 0) (get_or ns 3 0) (drop 4 ns)
-four_numbers [] h = absurd (omega (arith, h))
-four_numbers (a ∷ []) h = absurd (omega (arith, h))
-four_numbers (a ∷ b ∷ []) h = absurd (omega (arith, h))
-four_numbers (a ∷ b ∷ c ∷ []) h = absurd (omega (arith, h))
-four_numbers (a ∷ b ∷ c ∷ d ∷ ns) h = refl
-
-pub only_one : (ns : List ℕ) → length ns ≡ 1 → only ns ≡ Some (get_or ns 0 0)
-only_one [] h = absurd (omega (arith, h))
-only_one (n ∷ []) h = refl
-only_one (n ∷ m ∷ ns) h = absurd (omega (arith, h))
-
-pub only_none : (ns : List ℕ) → ¬ (length ns ≡ 1) → only ns ≡ None
-only_none [] h = refl
-only_none (n ∷ []) h = absurd (h refl)
-only_none (n ∷ m ∷ ns) h = refl

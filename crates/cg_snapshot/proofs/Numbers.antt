@@ -73,11 +73,10 @@ four a b c d x y e = cc
 
 pub one_but : (a b : List ℕ) → AreSmall a → AreSmall b → but_text a ≡ but_text b → a ≡ b
 one_but [] [] p q e = refl
-one_but [] (m ∷ ms) p q e = absurd (cc)
-one_but (n ∷ ns) [] p q e = absurd (cc)
 one_but (n ∷ ns) (m ∷ ms) p q e =
     let same : all_spaced (n ∷ ns) ≡ all_spaced (m ∷ ms) = four 32 98 117 116 (all_spaced (n ∷ ns)) (all_spaced (m ∷ ms)) e in
     (one_numbers (n ∷ ns) (m ∷ ms) [] [] p q tt tt stops_nil stops_nil (append-nil (all_spaced (n ∷ ns)) ∙ same ∙ sym (append-nil (all_spaced (m ∷ ms))))).0
+one_but xs list p q e = absurd (cc)
 
 spaced_lack : (ns : List ℕ) → AreSmall ns → Lacks 10 (all_spaced ns)
 spaced_lack [] p = tt

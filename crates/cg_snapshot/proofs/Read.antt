@@ -1,6 +1,7 @@
 -- Reading line by line: the part read is a text of lines, and no text continues with a line that cannot follow.
 use Rattle.std.proofs.Common.{◌≡◌, ◌≢◌, refl, sym, ◌∙◌, ap, subst, ℕ, ◌+◌, ◌<◌, ◌≤◌, ◌^◌, List, [], ◌∷◌, ◌++◌, length, map, Some, None, arith, append_assoc, append-nil, length-append}
 use Rattle.std.proofs.lemmas.List.{nil_from_length, length-map}
+use Rattle.std.proofs.lemmas.Option.{same_Some}
 use Rattle.cg_snapshot.specs.declared.reading.Snapshot.{Snapshot}
 use Rattle.cg_snapshot.specs.declared.line.Line.{Line}
 use Rattle.cg_snapshot.specs.declared.draft.Stage.TheVariants.{Behind}
@@ -9,10 +10,11 @@ use Rattle.cg_snapshot.specs.Lines.{raw_line, IsLine, lines_of}
 use Rattle.cg_snapshot.specs.Reading.{draft, step}
 use Rattle.cg_snapshot.specs.Text.{text, IsWritable, Spells, Begins, HasNoFeed, Leaves, by_line, at_end, IsBadLine}
 use Rattle.cg_snapshot.proofs.CutBytes.{lacks_not}
-use Rattle.cg_snapshot.proofs.Machine.{run, start, is_stuck, run-lines_of}
+use Rattle.cg_records.proofs.Runs.{run, is_stuck}
+use Rattle.cg_snapshot.proofs.Machine.{start, run-lines_of}
 use Rattle.cg_snapshot.proofs.MeaningOfLines.{one_line}
-use Rattle.cg_snapshot.proofs.Sound.{snapshot, Holds, holds_start, holds_more, completes, few_members}
-use Rattle.cg_snapshot.proofs.Spelled.{lines_text, lines_text-append, spelled, AreLines, lines_append, lines_fit, raws_lack, first_line, one_more, follows}
+use Rattle.cg_snapshot.proofs.Sound.{snapshot, Holds, holds_more, completes, few_members}
+use Rattle.cg_snapshot.proofs.Spelled.{lines_text, lines_text-append, spelled, AreLines, lines_append, lines_fit, raws_lack, first_line, one_more, follows, nothing}
 
 -- the bytes up to a rest are lines that give the draft
 pub record HasRead (bytes rest : List ℕ) (d : Draft) (number : ℕ) : Type 0 where
@@ -22,9 +24,6 @@ pub record HasRead (bytes rest : List ℕ) (d : Draft) (number : ℕ) : Type 0 w
   pub holds : Holds done d
   pub count : number ≡ length done + 1
   pub room : length done + length rest ≤ length bytes
-
-pub read_start : (bytes : List ℕ) → HasRead bytes bytes start 1
-read_start bytes = record { done = []; says = refl; fits = tt; holds = holds_start; count = refl; room = omega arith }
 
 last_line : (l : Line) → lines_text (l ∷ []) ≡ raw_line l ++ 10 ∷ []
 last_line l = append-nil (raw_line l ++ 10 ∷ [])
@@ -82,10 +81,6 @@ module _ (bytes rest : List ℕ) (d : Draft) (number : ℕ) (h : HasRead bytes r
         where
           by : (ls : List Line) → lines_text ls ≡ (raw ++ 10 ∷ []) ++ more → AreLines ls → ⊥
           by [] e are = nothing raw more (e ∙ append_assoc raw (10 ∷ []) more)
-            where
-              nothing : (xs ys : List ℕ) → [] ≡ xs ++ 10 ∷ ys → ⊥
-              nothing [] ys f = absurd (cc)
-              nothing (x ∷ xs) ys f = absurd (cc)
           by (l ∷ ls) e are = none l are.0 (first_line raw more (lines_text ls) l lacks are.0 (sym (append_assoc raw (10 ∷ []) more) ∙ sym e ∙ one_more l ls)).0
 
   -- a line that may not follow
@@ -99,15 +94,11 @@ module _ (bytes rest : List ℕ) (d : Draft) (number : ℕ) (h : HasRead bytes r
         where
           by : (ls : List Line) → lines_of s ≡ h.done ++ ls → lines_text ls ≡ (raw ++ 10 ∷ []) ++ more → AreLines ls → ⊥
           by [] p e are = nothing raw more (e ∙ append_assoc raw (10 ∷ []) more)
-            where
-              nothing : (xs ys : List ℕ) → [] ≡ xs ++ 10 ∷ ys → ⊥
-              nothing [] ys f = absurd (cc)
-              nothing (x ∷ xs) ys f = absurd (cc)
           by (m ∷ ms) p e are =
               let first = first_line raw more (lines_text ms) m lacks are.0 (sym (append_assoc raw (10 ∷ []) more) ∙ sym e ∙ one_more m ms) in
               let same : m ≡ l = one_line m l are.0 line (sym first.0 ∙ is) in
-              let stuck : run start (lines_of s) ≡ None = ap (run start) (p ∙ ap (λ k. h.done ++ k ∷ ms) same) ∙ is_stuck start d h.done ms l h.holds.reached none in
-              let ended_at : run start (lines_of s) ≡ Some (draft s.members s.questions Behind) = run-lines_of s spells.writable.questions in
+              let stuck : run step start (lines_of s) ≡ None = ap (run step start) (p ∙ ap (λ k. h.done ++ k ∷ ms) same) ∙ is_stuck step start d h.done ms l h.holds.reached none in
+              let ended_at : run step start (lines_of s) ≡ Some (draft s.members s.questions Behind) = run-lines_of s spells.writable.questions in
               absurd (cc)
 
   -- the rest has no line feed
@@ -127,14 +118,10 @@ module _ (bytes rest : List ℕ) (d : Draft) (number : ℕ) (h : HasRead bytes r
 
       by : (s : Snapshot) → Spells (lines_text h.done ++ rest) s → (ls : List Line) → lines_of s ≡ h.done ++ ls → lines_text ls ≡ rest → ⊥
       by s spells [] p e =
-          let same : Some (draft s.members s.questions Behind) ≡ Some d = sym (run-lines_of s spells.writable.questions) ∙ ap (run start) (p ∙ append-nil h.done) ∙ h.holds.reached in
+          let same : Some (draft s.members s.questions Behind) ≡ Some d = sym (run-lines_of s spells.writable.questions) ∙ ap (run step start) (p ∙ append-nil h.done) ∙ h.holds.reached in
           let one : draft s.members s.questions Behind ≡ d = cc in
           open_still (sym (ap (λ (k : Draft). k.stage) one))
       by s spells (l ∷ ls) p e = nothing (raw_line l) (lines_text ls) (sym nil ∙ sym e ∙ one_more l ls)
-        where
-          nothing : (xs ys : List ℕ) → [] ≡ xs ++ 10 ∷ ys → ⊥
-          nothing [] ys f = absurd (cc)
-          nothing (x ∷ xs) ys f = absurd (cc)
 
   -- after the end the snapshot is complete
   pub read_end : length rest ≡ 0 → (s : Snapshot) → d ≡ draft s.members s.questions Behind → Spells bytes s
@@ -146,16 +133,9 @@ module _ (bytes rest : List ℕ) (d : Draft) (number : ℕ) (h : HasRead bytes r
         text = h.says ∙ ap (λ t. lines_text h.done ++ t) (nil_from_length rest empty) ∙ append-nil (lines_text h.done) ∙ ap lines_text holds.says ∙ sym (spelled s);
       }
 
-some_is : (a b : Draft) → Some a ≡ Some b → a ≡ b
-some_is a b e = cc
-
 no_lines : (ls : List Line) → lines_text ls ≡ [] → ls ≡ []
 no_lines [] e = refl
 no_lines (l ∷ ls) e = absurd (nothing (raw_line l) (lines_text ls) (sym e ∙ one_more l ls))
-  where
-    nothing : (xs ys : List ℕ) → [] ≡ xs ++ 10 ∷ ys → ⊥
-    nothing [] ys f = absurd (cc)
-    nothing (x ∷ xs) ys f = absurd (cc)
 
 -- no two snapshots share a text
 pub same_snapshot : (a b : Snapshot) → IsWritable a → IsWritable b → text a ≡ text b → a ≡ b
@@ -163,5 +143,5 @@ same_snapshot a b p q e =
     let more = follows (lines_of a) (lines_of b) [] (lines_fit a p) (lines_fit b q) (sym (spelled b) ∙ sym e ∙ spelled a ∙ sym (append-nil (lines_text (lines_of a)))) in
     let nothing : more.0 ≡ [] = no_lines more.0 more.2 in
     let all : lines_of b ≡ lines_of a = more.1 ∙ ap (λ t. lines_of a ++ t) nothing ∙ append-nil (lines_of a) in
-    let same : Some (draft a.members a.questions Behind) ≡ Some (draft b.members b.questions Behind) = sym (run-lines_of a p.questions) ∙ ap (run start) (sym all) ∙ run-lines_of b q.questions in
-    ap (λ (d : Draft). snapshot d.members d.questions) (some_is (draft a.members a.questions Behind) (draft b.members b.questions Behind) same)
+    let same : Some (draft a.members a.questions Behind) ≡ Some (draft b.members b.questions Behind) = sym (run-lines_of a p.questions) ∙ ap (run step start) (sym all) ∙ run-lines_of b q.questions in
+    ap (λ (d : Draft). snapshot d.members d.questions) (same_Some (draft a.members a.questions Behind) (draft b.members b.questions Behind) same)

@@ -4,9 +4,10 @@ use Rattle.std.specs.Prelude.{flat_map, option_map}
 use Rattle.std.specs.List.{AllByRecursion}
 use Rattle.std.proofs.lemmas.List.{map_push}
 use Rattle.std.proofs.lemmas.Grind.{flat_map-append}
+use Rattle.std.proofs.lemmas.Option.{same_Some}
 use Rattle.cg_snapshot.specs.declared.heap.Member.{Member}
 use Rattle.cg_snapshot.specs.declared.question.Question.{Question}
-use Rattle.cg_snapshot.specs.declared.question.Question.TheVariants.{Why, Referrers, Hidden, Lost, Dropped, Untold}
+use Rattle.cg_snapshot.specs.declared.question.Question.TheVariants.{Dropped}
 use Rattle.cg_snapshot.specs.declared.reading.Snapshot.{Snapshot}
 use Rattle.cg_snapshot.specs.declared.line.Line.{Line}
 use Rattle.cg_snapshot.specs.declared.line.Line.TheVariants as lines
@@ -18,7 +19,8 @@ use Rattle.cg_snapshot.specs.Reading.{draft, is_asked, step}
 use Rattle.cg_snapshot.specs.Lines.{untold_lines, member_lines, lines_of, IsLine, IsSmallQuestion}
 use Rattle.cg_snapshot.specs.Rows.{AreSmall}
 use Rattle.cg_snapshot.specs.Text.{IsSmallMember, IsAsked}
-use Rattle.cg_snapshot.proofs.Machine.{run, start, goes_on, of_asked, HasNumbers}
+use Rattle.cg_records.proofs.Runs.{run, goes_on}
+use Rattle.cg_snapshot.proofs.Machine.{start, of_asked, HasNumbers}
 
 -- a snapshot of these members and questions
 abbrev pub snapshot : List Member → List Question → Snapshot
@@ -38,12 +40,9 @@ IsFit Behind members questions = AllByRecursion IsSmallMember members × AllByRe
 
 -- The lines so far give the draft.
 pub record Holds (done : List Line) (d : Draft) : Type 0 where
-  pub reached : run start done ≡ Some d
+  pub reached : run step start done ≡ Some d
   pub says : done ≡ lines_in d.stage d.members d.questions
   pub fit : IsFit d.stage d.members d.questions
-
-pub holds_start : Holds [] start
-holds_start = record { reached = refl; says = refl; fit = (refl, refl) }
 
 all_push : {X : Type 0} (P : X → Type 0) (xs : List X) (x : X) → AllByRecursion P xs → P x → AllByRecursion P (xs ++ x ∷ [])
 all_push P [] x h p = (p, tt)
@@ -54,11 +53,8 @@ record Grows (done : List Line) (l : Line) (e : Draft) : Type 0 where
   pub says : done ++ l ∷ [] ≡ lines_in e.stage e.members e.questions
   pub fit : IsFit e.stage e.members e.questions
 
-same_some : {X : Type 0} (a b : X) → Some a ≡ Some b → a ≡ b
-same_some a b e = cc
-
 grown : (done : List Line) (l : Line) (e f : Draft) → Some e ≡ Some f → Grows done l e → Grows done l f
-grown done l e f is h = subst (λ (d : Draft). Grows done l d) (same_some e f is) h
+grown done l e f is h = subst (λ (d : Draft). Grows done l d) (same_Some e f is) h
 
 one_member : (ms : List Member) (m : Member) → flat_map member_lines (ms ++ m ∷ []) ≡ flat_map member_lines ms ++ member_lines m
 one_member ms m = flat_map-append member_lines ms (m ∷ []) ∙ ap (λ t. flat_map member_lines ms ++ t) (append-nil (member_lines m))
@@ -75,7 +71,7 @@ some_untold (n ∷ ns) h = refl
 added_one : (m : Member) (told words : List ℕ) (new : List Member) → m.untold ≡ told → 0 < length words → AreSmall words → option_map (λ k. k ∷ [])
     (told_more m told words) ≡ Some new → Adds (m ∷ []) words new
 added_one m (n ∷ ns) words new is some small e = absurd (cc)
-added_one m [] words new is some small e = subst (λ (ks : List Member). Adds (m ∷ []) words ks) (same_some (member m.degree m.size m.tracked m.legacy m.refs words ∷ []) new e) (record {
+added_one m [] words new is some small e = subst (λ (ks : List Member). Adds (m ∷ []) words ks) (same_Some (member m.degree m.size m.tracked m.legacy m.refs words ∷ []) new e) (record {
   says = append-nil (lines.Tells m.degree m.size m.tracked m.legacy m.refs ∷ untold_lines words) ∙ ap (λ t. lines.Tells m.degree m.size m.tracked m.legacy m.refs ∷ t) (some_untold words some)
       ∙ sym (ap (λ t. (lines.Tells m.degree m.size m.tracked m.legacy m.refs ∷ t) ++ lines.Adds words ∷ []) (append-nil (untold_lines m.untold) ∙ ap untold_lines is));
   fit = λ h. (record { degree = h.0.degree; size = h.0.size; refs = h.0.refs; untold = small }, tt);
@@ -86,7 +82,7 @@ added_more : (m : Member) (old : List Member) (words : List ℕ) (o : Option (Li
 added_more m old words None new ih e = absurd (cc)
 added_more m old words (Some rest) new ih e =
     let h = ih rest refl in
-    subst (λ (ks : List Member). Adds (m ∷ old) words ks) (same_some (m ∷ rest) new e) (record {
+    subst (λ (ks : List Member). Adds (m ∷ old) words ks) (same_Some (m ∷ rest) new e) (record {
       says = ap (λ t. member_lines m ++ t) h.says ∙ sym (append_assoc (member_lines m) (flat_map member_lines old) (lines.Adds words ∷ []));
       fit = λ all. (all.0, h.fit all.1);
     })
@@ -108,12 +104,8 @@ inside_adds done ms qs words e (Some new) says fit none h is =
     })
 
 numbers_of : (q : Question) → IsSmallQuestion q → HasNumbers q
-numbers_of (Why n but) h = tt
-numbers_of (Referrers n) h = tt
-numbers_of Hidden h = tt
-numbers_of Lost h = tt
 numbers_of (Dropped ns) h = h.0
-numbers_of Untold h = tt
+numbers_of other h = tt
 
 asks_more : (ms : List Member) (qs : List Question) (q : Question) → lines_of (snapshot ms qs) ++ lines.Asks q ∷ [] ≡ lines_of (snapshot ms (qs ++ q ∷ []))
 asks_more ms qs q =
@@ -136,11 +128,6 @@ grows done ms qs Before lines.Opens e says fit line is = grown done lines.Opens 
   says = ap (λ t. t ++ lines.Opens ∷ []) says ∙ ap (λ (ks : List Member). lines.Opens ∷ flat_map member_lines ks) (sym fit.0);
   fit = (subst (λ (ks : List Member). AllByRecursion IsSmallMember ks) (sym fit.0) tt, fit.1);
 })
-grows done ms qs Before (lines.Tells d z t l refs) e says fit line is = absurd (cc)
-grows done ms qs Before (lines.Adds words) e says fit line is = absurd (cc)
-grows done ms qs Before lines.Closes e says fit line is = absurd (cc)
-grows done ms qs Before (lines.Asks q) e says fit line is = absurd (cc)
-grows done ms qs Inside lines.Opens e says fit line is = absurd (cc)
 grows done ms qs Inside (lines.Tells d z t l refs) e says fit line is =
     grown done (lines.Tells d z t l refs) (draft (ms ++ member d z t l refs [] ∷ []) qs Inside) e is (record {
       says = ap (λ k. k ++ lines.Tells d z t l refs ∷ []) says ∙ ap (λ k. lines.Opens ∷ k) (sym (one_member ms (member d z t l refs [])));
@@ -152,17 +139,13 @@ grows done ms qs Inside lines.Closes e says fit line is =
       says = ap (λ k. k ++ lines.Closes ∷ []) says ∙ ap (λ (ks : List Question). lines_of (snapshot ms ks)) (sym fit.1);
       fit = (fit.0, subst (λ (ks : List Question). AllByRecursion (IsAsked (length ms)) ks) (sym fit.1) tt);
     })
-grows done ms qs Inside (lines.Asks q) e says fit line is = absurd (cc)
-grows done ms qs Behind lines.Opens e says fit line is = absurd (cc)
-grows done ms qs Behind (lines.Tells d z t l refs) e says fit line is = absurd (cc)
-grows done ms qs Behind (lines.Adds words) e says fit line is = absurd (cc)
-grows done ms qs Behind lines.Closes e says fit line is = absurd (cc)
 grows done ms qs Behind (lines.Asks q) e says fit line is = behind_asks done ms qs q e (is_asked (length ms) q) refl says fit.0 fit.1 line is
+grows done ms qs other said e says fit line is = absurd (cc)
 
 pub holds_more : (done : List Line) (d e : Draft) (l : Line) → Holds done d → IsLine l → step d l ≡ Some e → Holds (done ++ l ∷ []) e
 holds_more done d e l h line is =
     let more = grows done d.members d.questions d.stage l e h.says h.fit line is in
-    record { reached = goes_on start d e done l h.reached is; says = more.says; fit = more.fit }
+    record { reached = goes_on step start d e done l h.reached is; says = more.says; fit = more.fit }
 
 -- every draft can be completed to a text
 pub completes : (done : List Line) (ms : List Member) (qs : List Question) (s : Stage) → done ≡ lines_in s ms qs → IsFit s ms qs

@@ -2,9 +2,11 @@
 use Rattle.std.proofs.Common.{◌≡◌, refl, sym, ◌∙◌, ap, ℕ, ◌<◌, ◌^◌, List, [], ◌∷◌, ◌++◌, length, map, arith, append_assoc, append-nil}
 use Rattle.std.specs.Prelude.{flat_map, codes}
 use Rattle.std.specs.List.{AllByRecursion}
+use Rattle.std.proofs.lemmas.List.Concat.{flat_map-append}
+use Rattle.std.proofs.lemmas.List.{map-append}
 use Rattle.cg_snapshot.specs.declared.heap.Member.{Member}
 use Rattle.cg_snapshot.specs.declared.question.Question.{Question}
-use Rattle.cg_snapshot.specs.declared.question.Question.TheVariants.{Why, Referrers, Hidden, Lost, Dropped, Untold}
+use Rattle.cg_snapshot.specs.declared.question.Question.TheVariants.{Why, Referrers, Dropped}
 use Rattle.cg_snapshot.specs.declared.reading.Snapshot.{Snapshot}
 use Rattle.cg_snapshot.specs.declared.line.Line.{Line}
 use Rattle.cg_snapshot.specs.declared.line.Line.TheVariants as lines
@@ -20,8 +22,7 @@ abbrev pub lines_text : List Line → List ℕ
 lines_text ls = ended (map raw_line ls)
 
 pub lines_text-append : (xs ys : List Line) → lines_text (xs ++ ys) ≡ lines_text xs ++ lines_text ys
-lines_text-append [] ys = refl
-lines_text-append (x ∷ xs) ys = ap (λ t. (raw_line x ++ 10 ∷ []) ++ t) (lines_text-append xs ys) ∙ sym (append_assoc (raw_line x ++ 10 ∷ []) (lines_text xs) (lines_text ys))
+lines_text-append xs ys = ap ended (map-append raw_line xs ys) ∙ flat_map-append (λ l. l ++ 10 ∷ []) (map raw_line xs) (map raw_line ys)
 
 untold_spelled : (words : List ℕ) → untold_text words ≡ lines_text (untold_lines words)
 untold_spelled [] = refl
@@ -38,16 +39,11 @@ members_spelled [] = refl
 members_spelled (m ∷ ms) =
     ap (λ t. t ++ flat_map member_text ms) (member_spelled m) ∙ ap (λ t. lines_text (member_lines m) ++ t) (members_spelled ms) ∙ sym (lines_text-append (member_lines m) (flat_map member_lines ms))
 
-why_grouped : (n but : List ℕ) → ((codes "why" ++ n) ++ but) ++ 10 ∷ [] ≡ (codes "why" ++ ((n ++ []) ++ but)) ++ 10 ∷ []
-why_grouped n but = ap (λ t. t ++ 10 ∷ []) (append_assoc (codes "why") n but ∙ ap (λ t. codes "why" ++ (t ++ but)) (sym (append-nil n)))
-
 question_spelled : (q : Question) → question_text q ≡ raw_line (lines.Asks q) ++ 10 ∷ []
-question_spelled (Why n but) = why_grouped (spaced n) (but_text but)
+question_spelled (Why n but) = ap (λ t. t ++ 10 ∷ []) (append_assoc (codes "why") (spaced n) (but_text but) ∙ ap (λ t. codes "why" ++ (t ++ (but_text but))) (sym (append-nil (spaced n))))
 question_spelled (Referrers n) = ap (λ t. (codes "referrers" ++ t) ++ 10 ∷ []) (sym (append-nil (spaced n)) ∙ sym (append-nil (spaced n ++ [])))
-question_spelled Hidden = refl
-question_spelled Lost = refl
 question_spelled (Dropped ns) = ap (λ t. (codes "drop" ++ t) ++ 10 ∷ []) (sym (append-nil (all_spaced ns)))
-question_spelled Untold = refl
+question_spelled other = refl
 
 questions_spelled : (qs : List Question) → flat_map question_text qs ≡ lines_text (map lines.Asks qs)
 questions_spelled [] = refl
@@ -78,10 +74,8 @@ small_places count (n ∷ ns) few h = (omega (arith, h.0, few), small_places cou
 asked_fits : (count : ℕ) (q : Question) → count < 2 ^ 64 → IsAsked count q → IsSmallQuestion q
 asked_fits count (Why n but) few h = (omega (arith, h.0, few), small_places count but few h.1)
 asked_fits count (Referrers n) few h = omega (arith, h, few)
-asked_fits count Hidden few h = tt
-asked_fits count Lost few h = tt
 asked_fits count (Dropped ns) few h = (h.0, small_places count ns few h.1)
-asked_fits count Untold few h = tt
+asked_fits count other few h = tt
 
 questions_fit : (count : ℕ) (qs : List Question) → count < 2 ^ 64 → AllByRecursion (IsAsked count) qs → AreLines (map lines.Asks qs)
 questions_fit count [] few h = tt
@@ -110,6 +104,10 @@ pub raws_lack : (ls : List Line) → AreLines ls → AllByRecursion HasNoFeed (m
 raws_lack [] h = tt
 raws_lack (l ∷ ls) h = (line_lacks l h.0, raws_lack ls h.1)
 
+pub nothing : (xs ys : List ℕ) → [] ≡ xs ++ 10 ∷ ys → ⊥
+nothing [] ys e = absurd (cc)
+nothing (x ∷ xs) ys e = absurd (cc)
+
 -- a line at the front
 pub first_line : (raw x y : List ℕ) (l : Line) → HasNoFeed raw → IsLine l → raw ++ 10 ∷ x ≡ raw_line l ++ 10 ∷ y → (raw ≡ raw_line l) × (x ≡ y)
 first_line raw x y l lacks line e =
@@ -127,10 +125,6 @@ pub follows : (front ls : List Line) (rest : List ℕ) → AreLines front → Ar
     × (ls ≡ front ++ more) × (lines_text more ≡ rest) × AreLines more
 follows [] ls rest p q e = (ls, refl, e, q)
 follows (a ∷ front) [] rest p q e = absurd (nothing (raw_line a) (lines_text front ++ rest) (e ∙ ap (λ t. t ++ rest) (one_more a front) ∙ append_assoc (raw_line a) (10 ∷ lines_text front) rest))
-  where
-    nothing : (xs ys : List ℕ) → [] ≡ xs ++ 10 ∷ ys → ⊥
-    nothing [] ys f = absurd (cc)
-    nothing (x ∷ xs) ys f = absurd (cc)
 follows (a ∷ front) (b ∷ ls) rest p q e =
     let one = first_line (raw_line b) (lines_text ls) (lines_text front ++ rest) a (line_lacks b q.0) p.0 (sym (one_more b ls) ∙ e
     ∙ ap (λ t. t ++ rest) (one_more a front) ∙ append_assoc (raw_line a) (10 ∷ lines_text front) rest) in

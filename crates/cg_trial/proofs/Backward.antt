@@ -1,7 +1,6 @@
 -- Taking back from the last object to the first, and from the last entries to the first.
 use Rattle.std.proofs.Common.{◌≡◌, ◌≢◌, sym, ◌∙◌, ap, subst, ℕ, ◌+◌, ◌-◌, ◌*◌, ◌/◌, ◌<◌, ◌≤◌, ◌⊎◌, inl, inr, List, [], ◌∷◌, ◌++◌, length, take, drop, get_or, arith}
 use Rattle.std.proofs.lemmas.List.{take-append-drop, drop_more, drop_all, drop-append-le, drop-drop, length-take, length-drop, take_all}
-use Rattle.std.specs.Prelude.{slice_index}
 use Rattle.cg_kind.specs.Calls.{next_entries}
 use Rattle.cg_kind.specs.declared.notes.TheConstants.{AT_ONCE}
 use Rattle.cg_kind.proofs.References.{references-append}
@@ -29,16 +28,6 @@ awake_before v xs end some within awake behind p h = go (subst (λ (l : List ℕ
     go : Includes (get_or xs (end - 1) 0 ∷ drop end xs) p → v.number p ≢ 0
     go (inl i) = subst (λ q. v.number q ≢ 0) i awake
     go (inr k) = behind p k
-
-pub last_zero : (v : View) (xs : List ℕ) (end : ℕ) → 0 < end → end ≤ length xs → v.number (slice_index xs (end - 1)) ≡ 0 → ((p : ℕ) → Includes (drop end xs) p → v.number p ≢ 0)
-    → IsLastZero v xs (end - 1)
-last_zero v xs end some within zero behind = record {
-  within = omega (arith, some, within);
-  zero = zero;
-  behind = λ p h.
-      let after : end - 1 + 1 ≡ end = omega (arith, some) in
-      behind p (subst (λ i. Includes (drop i xs) p) after h);
-}
 
 -- none stands behind the last
 pub none_behind : (v : View) (xs : List ℕ) (p : ℕ) → Includes (drop (length xs) xs) p → v.number p ≢ 0

@@ -26,33 +26,13 @@ module _ (store new : Store) (g : ℕ → Node → Node) (nodes : new.nodes ≡ 
   node_at : (s : ℕ) → fin.get new.nodes s ≡ option_map (g s) (fin.get store.nodes s)
   node_at s = ap (λ (m : fin.FinMap nat_cmp Node). fin.get m s) nodes ∙ get-mapped g store.nodes s
 
-  bare_at : (s : ℕ) → option_map bare_node (fin.get new.nodes s) ≡ option_map bare_node (fin.get store.nodes s)
-  bare_at s = ap (option_map bare_node) (node_at s) ∙ known (fin.get store.nodes s)
+  -- what is seen of an optional node, where the change keeps that
+  seen_at : {A : Type 0} (see : Option Node → A) → ((s : ℕ) (n : Node) → see (Some (g s n)) ≡ see (Some n)) → (s : ℕ) → see (fin.get new.nodes s) ≡ see (fin.get store.nodes s)
+  seen_at see same s = ap see (node_at s) ∙ known (fin.get store.nodes s)
     where
-      known : (x : Option Node) → option_map bare_node (option_map (g s) x) ≡ option_map bare_node x
+      known : (x : Option Node) → see (option_map (g s) x) ≡ see x
       known None = refl
-      known (Some n) = ap Some (bare s n)
-
-  live_at : (s : ℕ) → is_some (fin.get new.nodes s) ≡ is_some (fin.get store.nodes s)
-  live_at s = ap is_some (node_at s) ∙ known (fin.get store.nodes s)
-    where
-      known : (x : Option Node) → is_some (option_map (g s) x) ≡ is_some x
-      known None = refl
-      known (Some n) = refl
-
-  entries_at : (s : ℕ) → entries_in (fin.get new.nodes s) ≡ entries_in (fin.get store.nodes s)
-  entries_at s = ap entries_in (node_at s) ∙ known (fin.get store.nodes s)
-    where
-      known : (x : Option Node) → entries_in (option_map (g s) x) ≡ entries_in x
-      known None = refl
-      known (Some n) = ap (λ m. m.entries) (bare s n)
-
-  outside_at : (s : ℕ) → outside_in (fin.get new.nodes s) ≡ outside_in (fin.get store.nodes s)
-  outside_at s = ap outside_in (node_at s) ∙ known (fin.get store.nodes s)
-    where
-      known : (x : Option Node) → outside_in (option_map (g s) x) ≡ outside_in x
-      known None = refl
-      known (Some n) = ap (λ m. m.outside) (bare s n)
+      known (Some n) = same s n
 
   held_at : (s : ℕ) → held_within new.names new.nodes s ≡ held_within store.names store.nodes s
   unfolding held_within
@@ -62,10 +42,10 @@ module _ (store new : Store) (g : ℕ → Node → Node) (nodes : new.nodes ≡ 
 
   pub same_view : IsSame (view_of store) (view_of new)
   same_view = record {
-    lives = λ i s. live_at s i;
-    hold = λ i s. entries_at s i;
-    degrees = λ i s. held_at s i + outside_at s i;
-    bares = λ i s. bare_at s i;
+    lives = λ i s. seen_at is_some (λ q n. refl) s i;
+    hold = λ i s. seen_at entries_in (λ q n. ap (λ m. m.entries) (bare q n)) s i;
+    degrees = λ i s. held_at s i + seen_at outside_in (λ q n. ap (λ m. m.outside) (bare q n)) s i;
+    bares = λ i s. seen_at (option_map bare_node) (λ q n. ap Some (bare q n)) s i;
     besides = λ i. record { last = last i; names = names i; rows = rows i };
   }
 

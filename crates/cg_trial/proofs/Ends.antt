@@ -3,7 +3,7 @@ use Rattle.std.proofs.Common.{◌≡◌, ◌≢◌, refl, sym, ◌∙◌, ap, su
 use Rattle.std.specs.Prelude.{◌==◌, ◌↔◌, option_map}
 use Rattle.std.specs.FinMap as fin
 use Rattle.cg_value.specs.declared.Place.{Place}
-use Rattle.cg_value.specs.declared.Place.TheVariants.{Untracked, Gen, Frozen, Cand, Seen, Back, Legacy, Pend}
+use Rattle.cg_value.specs.declared.Place.TheVariants.{Gen, Cand}
 use Rattle.cg_graph.specs.Member.{Includes}
 use Rattle.cg_graph.specs.Holdings.{occurrences}
 use Rattle.cg_graph.specs.Store.{Store, Node, list_at}
@@ -25,9 +25,8 @@ use Rattle.cg_trial.proofs.Objects.{members, paths, entries_there}
 -- nodes are equal except for places and numbers
 same_nodes : (old new : Option Node) → option_map bare_node new ≡ option_map bare_node old → IsSameNode old new
 same_nodes None None h = tt
-same_nodes None (Some m) h = absurd (cc)
-same_nodes (Some n) None h = absurd (cc)
 same_nodes (Some n) (Some m) h = let bare : bare_node m ≡ bare_node n = cc in ap {A = Node} (λ (x : Node). record x { place = m.place; number = m.number }) bare
+same_nodes found m h = absurd (cc)
 
 pub same_but_places : (old new : Store) → IsSame (view_of old) (view_of new) → IsSameButPlaces old new
 same_but_places old new same = record {
@@ -79,13 +78,7 @@ module _ (place kept : Place) (old mid new : Store) (listed : IsListed old) (is 
 -- a generation keeps its reachable objects
 pub keeps_place : (p : Place) → p ≢ Cand → kept_place p ≡ p
 keeps_place Cand h = absurd (h refl)
-keeps_place Untracked h = refl
-keeps_place (Gen i) h = refl
-keeps_place Frozen h = refl
-keeps_place Seen h = refl
-keeps_place Back h = refl
-keeps_place Legacy h = refl
-keeps_place Pend h = refl
+keeps_place p h = refl
 
 -- if there was no candidate, the members of a generation are the candidates after the merge
 pub merged_candidates : (p : Place) (old mid : Store) → list_at old Cand ≡ [] → Merged p Cand (view_of old) (view_of mid) → list_at mid Cand ≡ list_at old p
@@ -94,9 +87,4 @@ merged_candidates p old mid none merged = merged.joined ∙ ap (λ (xs : List �
 pub split_place_below : (p : Place) → IsSplitPlace p → IsPlace p
 split_place_below Cand h = omega arith
 split_place_below (Gen i) h = omega (arith, h)
-split_place_below Untracked h = absurd h
-split_place_below Frozen h = absurd h
-split_place_below Seen h = absurd h
-split_place_below Back h = absurd h
-split_place_below Legacy h = absurd h
-split_place_below Pend h = absurd h
+split_place_below p h = absurd h

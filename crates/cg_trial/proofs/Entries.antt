@@ -1,5 +1,5 @@
 -- The walk over one object's entries: what the first of them refer to, and the next one.
-use Rattle.std.proofs.Common.{◌≡◌, true, false, cond, ◌⊎◌, inr, true≢false, replicate, refl, sym, ◌∙◌, ap, subst, ℕ, ◌+◌, ◌-◌, ◌<◌, ◌≤◌, List, [], ◌∷◌, ◌++◌, length, take, drop, get_or, inl, Option, Some, None, Bool, IsTrue, arith, append_assoc}
+use Rattle.std.proofs.Common.{◌≡◌, replicate, refl, sym, ◌∙◌, ap, subst, ℕ, ◌+◌, ◌-◌, ◌<◌, ◌≤◌, List, [], ◌∷◌, ◌++◌, length, take, drop, get_or, inl, Option, Some, None, Bool, IsTrue, arith, append_assoc}
 use Rattle.std.proofs.lemmas.List.{append-nil, take-append-drop, drop_more, take_more, replicate_more}
 use Rattle.cg_kind.specs.Calls.{next_entries}
 use Rattle.cg_kind.specs.declared.notes.TheConstants.{AT_ONCE}
@@ -10,16 +10,13 @@ use Rattle.cg_value.specs.declared.Place.TheVariants.{Cand}
 use Rattle.cg_value.specs.declared.Entry.{Entry}
 use Rattle.cg_graph.specs.Member.{Includes}
 use Rattle.cg_graph.specs.Holdings.{occurrences}
-use Rattle.std.proofs.lemmas.Bool.{eqb-true, eq-eqb}
-use Rattle.std.specs.Prelude.{◌==◌}
-use Rattle.cg_graph.proofs.Members.{cases_of}
-use Rattle.cg_trial.specs.View.{IsNext, View, IsSame, Numbered, Lowered, IsReadyView, held_by, head_of}
+use Rattle.cg_trial.specs.View.{IsNext, View, IsSame, Lowered, IsReadyView, held_by, head_of}
 use Rattle.cg_graph.specs.Value.{references}
 use Rattle.cg_trial.specs.Paths.{entries_in}
 use Rattle.std.proofs.lemmas.List.Sums.{sum_by_push}
 use Rattle.cg_graph.proofs.Members.{Includes-append_left, Includes-append_right}
 use Rattle.cg_graph.proofs.Objects.{occurrences-append}
-use Rattle.cg_trial.proofs.Lists.{occurs_often, occurs_never, IsAt, head_is}
+use Rattle.cg_trial.proofs.Lists.{occurs_often, IsAt, head_is}
 use Rattle.cg_trial.proofs.Passes.{cand_same, but_numbers_itself, but_numbers_more, turn_of, at_end}
 
 pub live_same : (old mid : View) (o : ℕ) → IsSame old mid → IsTrue (old.live o) → IsTrue (mid.live o)
@@ -100,30 +97,6 @@ pub lowered_next : (old mid new : View) (xs : List ℕ) (from next : ℕ) → fr
     → Lowered (get_or xs from 0 ∷ []) mid new → Lowered (take next xs) old new
 lowered_next old mid new xs from next within is so more =
     subst (λ (r : List ℕ). Lowered r old new) (sym (ap (λ n. take n xs) is ∙ take_more xs from 0 within)) (lowered_more old mid new (take from xs) _ so more)
-
--- a candidate whose number falls by this
-pub lowered_by : (n o : ℕ) (old new : View) → n ≤ old.number o → Numbered o (old.number o - n) old new → Lowered (replicate n o) old new
-lowered_by n o old new room numbered = record {
-  rest = numbered.rest;
-  lower = λ q h. go q (cases_of (q == o));
-}
-  where
-    go : (q : ℕ) → (q == o ≡ true) ⊎ (q == o ≡ false) → new.number q + occurrences q (replicate n o) ≡ old.number q
-    go q (inl e) =
-        let same : q ≡ o = eqb-true q o e in
-        let lower : new.number q ≡ old.number o - n = numbered.numbers q ∙ ap (λ b. cond b (old.number o - n) (old.number q)) e in
-        let often : occurrences q (replicate n o) ≡ n = ap (λ p. occurrences p (replicate n o)) same ∙ occurs_often n o in
-        omega (arith, room, lower, often, ap old.number same)
-    go q (inr e) =
-        let lower : new.number q ≡ old.number q = numbered.numbers q ∙ ap (λ b. cond b (old.number o - n) (old.number q)) e in
-        omega (arith, lower, occurs_never n q o (λ i. true≢false (sym (eq-eqb q o (sym i)) ∙ e)))
-
--- an object that is not a candidate
-pub lowered_idle : (n o : ℕ) (v : View) → (Includes (v.listed Cand) o → ⊥) → Lowered (replicate n o) v v
-lowered_idle n o v other = record {
-  rest = but_numbers_itself v;
-  lower = λ q h. omega (arith, occurs_never n q o (λ i. other (subst (λ p. Includes (v.listed Cand) p) (sym i) h)));
-}
 
 -- Lowering has reached entry `from`.
 pub record Lowering (o : ℕ) (old now : View) (from : ℕ) : Type 0 where

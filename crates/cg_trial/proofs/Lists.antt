@@ -1,5 +1,5 @@
 -- Lemmas on elements of a list, how often they occur, and the list without one (`without_serial`).
-use Rattle.std.proofs.Common.{◌≡◌, ◌≢◌, refl, sym, ◌∙◌, ap, subst, replicate, ℕ, zero, suc, ◌+◌, ◌*◌, ◌≤◌, true, false, cond, not, ◌⊎◌, inl, inr, List, [], ◌∷◌, ◌++◌, length, Option, Some, None, arith, mul-le-mul_right}
+use Rattle.std.proofs.Common.{◌≡◌, ◌≢◌, refl, sym, ◌∙◌, ap, subst, replicate, ℕ, zero, suc, ◌+◌, ◌*◌, ◌≤◌, true, false, cond, not, ◌⊎◌, inl, inr, List, [], ◌∷◌, ◌++◌, length, Option, Some, arith, mul-le-mul_right}
 use Rattle.std.proofs.lemmas.Bool.{eqb-true, eq-eqb, ne_eqb}
 use Rattle.std.proofs.lemmas.Bool.Decides.{nat_tests}
 use Rattle.std.proofs.lemmas.List.Sums.{sum_by-cons, length-filter, count_by-le-length}
@@ -32,9 +32,6 @@ occurs_in (x ∷ xs) o h = go (cases_of (x == o)) (λ k. occurs_in xs o k)
 -- a list that repeats one object
 pub occurs_often : (n o : ℕ) → occurrences o (replicate n o) ≡ n
 occurs_often n o = sum_by-replicate (λ y. cond (y == o) 1 0) n o ∙ ap (λ b. n * cond b 1 0) (eq-eqb o o refl) ∙ omega arith
-
-pub occurs_never : (n p o : ℕ) → (o ≡ p → ⊥) → occurrences p (replicate n o) ≡ 0
-occurs_never n p o other = sum_by-replicate (λ y. cond (y == p) 1 0) n o ∙ ap (λ b. n * cond b 1 0) (ne_eqb o p other) ∙ omega arith
 
 pub always_that : (n o q : ℕ) → Includes (replicate n o) q → o ≡ q
 always_that zero o q h = absurd h
@@ -89,9 +86,8 @@ Includes-without o (x ∷ xs) q h = go (cases_of (x == o)) (λ k. Includes-witho
 
 -- The list from a cursor on.
 abbrev pub ahead : Option ℕ → List ℕ → List ℕ
-ahead None xs = []
-ahead (Some o) [] = []
 ahead (Some o) (x ∷ xs) = cond (x == o) (x ∷ xs) (ahead (Some o) xs)
+ahead m xs = []
 
 -- A cursor is at the head of the second part.
 pub record IsAt (xs : List ℕ) (cursor : Option ℕ) (front back : List ℕ) : Type 0 where
@@ -126,25 +122,12 @@ ahead_is xs cursor front (o ∷ back) once at =
     ∙ ap (ahead (Some o)) at.parts
     ∙ ahead_past front back o (once_before xs front back o (once o) at.parts).0
 
--- the lists have equal sums of every function
-abbrev pub HasSameSums : List ℕ → List ℕ → Type 0
-HasSameSums xs ys = (f : ℕ → ℕ) → sum_by f xs ≡ sum_by f ys
-
-pub same_occurrences : (xs ys : List ℕ) → HasSameSums xs ys → (o : ℕ) → occurrences o xs ≡ occurrences o ys
-same_occurrences xs ys sums o = sums (λ x. cond (x == o) 1 0)
-
-pub same_members : (xs ys : List ℕ) → HasSameSums xs ys → (o : ℕ) → Includes xs o → Includes ys o
-same_members xs ys sums o h = occurs_in ys o (let e = same_occurrences xs ys sums o in let k = occurs xs o h in omega arith)
-
 pub none_or_some : (n : ℕ) → (n ≡ 0) ⊎ (1 ≤ n)
 none_or_some zero = inl refl
 none_or_some (suc n) = inr (omega arith)
 
 pub absent : (xs : List ℕ) (o : ℕ) → ¬ Includes xs o → occurrences o xs ≡ 0
 absent xs o h = either (none_or_some (occurrences o xs)) (λ e. e) (λ k. absurd (h (occurs_in xs o k)))
-
-pub stands_or_not : (xs : List ℕ) (o : ℕ) → Includes xs o ⊎ (occurrences o xs ≡ 0)
-stands_or_not xs o = either (none_or_some (occurrences o xs)) (λ e. inr e) (λ k. inl (occurs_in xs o k))
 
 -- sums of parts, term by term
 pub sum_by-parts : (f g h : ℕ → ℕ) → ((x : ℕ) → f x + g x ≡ h x) → (xs : List ℕ) → sum_by f xs + sum_by g xs ≡ sum_by h xs

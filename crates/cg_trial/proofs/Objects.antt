@@ -10,7 +10,7 @@ use Rattle.std.proofs.lemmas.Bool.{eqb-true, eq-eqb, ne_eqb, cases_eq}
 use Rattle.std.proofs.lemmas.List.Sums.{sum_by-cons}
 use Rattle.cg_value.specs.declared.Entry.{Entry}
 use Rattle.cg_value.specs.declared.Place.{Place}
-use Rattle.cg_value.specs.declared.Place.TheVariants.{Untracked, Gen, Frozen, Cand, Seen, Back, Legacy, Pend}
+use Rattle.cg_value.specs.declared.Place.TheVariants.{Gen, Cand}
 use Rattle.cg_graph.specs.declared.Edge.{Edge}
 use Rattle.cg_graph.specs.Member.{Includes}
 use Rattle.cg_graph.specs.Value.{references}
@@ -89,37 +89,14 @@ finds (x ∷ es) k v h = go (cases_eq k x.0) (finds es k v)
 -- the two tests on places agree
 same_is : (p q : Place) → IsSplitPlace p → same_place q p ≡ true → q ≡ p
 same_is Cand Cand s h = refl
-same_is Cand Untracked s h = absurd (cc)
-same_is Cand Frozen s h = absurd (cc)
-same_is Cand Seen s h = absurd (cc)
-same_is Cand Back s h = absurd (cc)
-same_is Cand Legacy s h = absurd (cc)
-same_is Cand Pend s h = absurd (cc)
-same_is Cand (Gen i) s h = absurd (cc)
+same_is Cand p s h = absurd (cc)
 same_is (Gen j) (Gen i) s h = ap Gen (eqb-true i j h)
-same_is (Gen j) Cand s h = absurd (cc)
-same_is (Gen j) Untracked s h = absurd (cc)
-same_is (Gen j) Frozen s h = absurd (cc)
-same_is (Gen j) Seen s h = absurd (cc)
-same_is (Gen j) Back s h = absurd (cc)
-same_is (Gen j) Legacy s h = absurd (cc)
-same_is (Gen j) Pend s h = absurd (cc)
-same_is Untracked q s h = absurd s
-same_is Frozen q s h = absurd s
-same_is Seen q s h = absurd s
-same_is Back q s h = absurd s
-same_is Legacy q s h = absurd s
-same_is Pend q s h = absurd s
+same_is (Gen j) p s h = absurd (cc)
+same_is p q s h = absurd s
 
 same_itself : (p : Place) → same_place p p ≡ true
-same_itself Cand = refl
-same_itself Untracked = refl
-same_itself Frozen = refl
-same_itself Seen = refl
-same_itself Back = refl
-same_itself Legacy = refl
-same_itself Pend = refl
 same_itself (Gen i) = eq-eqb i i refl
+same_itself p = refl
 
 -- lists without duplicates and with the same members have the same sums
 same_sums : (xs ys : List ℕ) → ((o : ℕ) → occurrences o xs ≤ 1) → ((o : ℕ) → occurrences o ys ≤ 1) → ((o : ℕ) → Includes xs o ↔ Includes ys o) → (f : ℕ → ℕ) → sum_by f xs ≡ sum_by f ys

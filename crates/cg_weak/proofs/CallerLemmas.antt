@@ -2,7 +2,7 @@
 use Rattle.std.proofs.Common.{◌≡◌, ℕ, ◌<◌, ◌≤◌, Bool, true, false, not, cond, List, [], ◌∷◌, ◌++◌, map, Option, Some, None, refl, sym, ap, ◌∙◌, subst, arith}
 use Rattle.std.specs.Prelude.{◌==◌, nat_lt, filter, find, reverse, slice_get, option_and_then, if◌then◌else◌}
 use Rattle.std.specs.List.{All}
-use Rattle.std.proofs.lemmas.Bool.{eq-eqb, eqb-true, lt-ltb, le-ltb, ltb-true, and_parts}
+use Rattle.std.proofs.lemmas.Bool.{eq-eqb, eqb-true, lt-ltb, le-ltb, and_parts}
 use Rattle.std.proofs.lemmas.List.{reverse-append}
 use Rattle.std.proofs.lemmas.List.Elements.{All-nil, All-head, All-tail, All-push}
 use Rattle.cg_graph.specs.Rows.{Row, IsRising, referent_in, waited_in, refers_to, waits_with, newest_first, weak_references_in, waiting_in, next_older_in, waiting_row, with_row_waiting, without_row}
@@ -34,24 +34,11 @@ module _ (rows : List Row) (rise : IsRising rows) where
           let parts = and_parts (r.referent == o) r.waits is in
           ap (λ b. if b then Some r.referent else None) parts.1 ∙ ap Some (eqb-true r.referent o parts.0)
 
-  -- the newest weak reference to an object refers to it
-  pub newest_refers : (o w : ℕ) → slice_get (weak_references_in rows o) 0 ≡ Some w → referent_in rows w ≡ Some o
-  newest_refers o w is =
-      refers o w (last_passes (PassesBoth (refers_to o) (λ v. true) rows) (find (λ v. true) (weak_references_in rows o)) w
-      (find_first (weak_references_in rows o) ∙ is) (last_found (refers_to o) (λ v. true) rows rise)).0
-
   -- the newest that waits with an object waits with it
   pub newest_waits : (o w : ℕ) → slice_get (waiting_in rows o) 0 ≡ Some w → waited_in rows w ≡ Some o
   newest_waits o w is =
       waits o w (last_passes (PassesBoth (waits_with o) (λ v. true) rows) (find (λ v. true) (waiting_in rows o)) w (find_first (waiting_in rows o) ∙ is)
       (last_found (waits_with o) (λ v. true) rows rise)).0
-
-  -- the next older weak reference has the same referent and is older
-  pub older_refers : (o w v : ℕ) → referent_in rows w ≡ Some o → next_older_in rows w ≡ Some v → (referent_in rows v ≡ Some o) × (v < w)
-  older_refers o w v is older =
-      let found = ap (option_and_then (λ p. find (λ u. nat_lt u w) (weak_references_in rows p))) (sym is) ∙ older in
-      let passed = last_passes (PassesBoth (refers_to o) (λ u. nat_lt u w) rows) (find (λ u. nat_lt u w) (weak_references_in rows o)) v found (last_found (refers_to o) (λ u. nat_lt u w) rows rise) in
-      (refers o v passed.0, ltb-true v w passed.1)
 
 -- Weak references in descending order.
 abbrev IsFalling : List ℕ → Type 0

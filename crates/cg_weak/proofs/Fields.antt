@@ -31,17 +31,15 @@ module _ {X : Type 0} (part : Option Node → X) where
   part-older_set keeps at x v o = go (is_named at v) o
     where
       go : (b : Bool) (o : Option Node) → part (if b then option_map (with_older x) o else o) ≡ part o
-      go true None = refl
       go true (Some n) = keeps x n
-      go false o = refl
+      go b o = refl
 
   pub part-newer_set : ((x : Option ℕ) (n : Node) → part (Some (with_newer x n)) ≡ part (Some n)) → (at x : Option ℕ) (v : ℕ) (o : Option Node) → part (newer_set at x v o) ≡ part o
   part-newer_set keeps at x v o = go (is_named at v) o
     where
       go : (b : Bool) (o : Option Node) → part (if b then option_map (with_newer x) o else o) ≡ part o
-      go true None = refl
       go true (Some n) = keeps x n
-      go false o = refl
+      go b o = refl
 
 -- a node with both neighbours written
 abbrev pub tied : Option ℕ → Option ℕ → Option ℕ → Option ℕ → ℕ → Option Node → Option Node
@@ -99,9 +97,6 @@ module _ (node new : ℕ → Option Node) (ends new_ends : Chain → Ends) (w : 
     (nodes_are : (v : ℕ) → new v ≡ (if nat_eq w v then None else tied n.newer n.older n.older n.newer v (node v)))
     (here_are : new_ends (n.referent, n.waits) ≡ ends_without n.newer n.older (ends (n.referent, n.waits)))
     (others_are : (j : Chain) → j ≢ (n.referent, n.waits) → new_ends j ≡ ends j) where
-  k_of : Chain
-  k_of = (n.referent, n.waits)
-
   other_node : (v : ℕ) → v ≢ w → new v ≡ tied n.newer n.older n.older n.newer v (node v)
   other_node v differs = nodes_are v ∙ ap (λ b. if b then None else tied n.newer n.older n.older n.newer v (node v)) (ne_eqb w v (λ e. differs (sym e)))
 
@@ -228,7 +223,6 @@ module _ (chains : ℕ → Chains) (o : ℕ) (b : Bool) (e : Ends) (with : Chain
   ]
     where
       go : (b c : Bool) → b ≢ c → ends_of (with_ends b e (chains p)) c ≡ ends_of (chains p) c
-      go true true apart = absurd (apart refl)
-      go false false apart = absurd (apart refl)
       go true false apart = refl
       go false true apart = refl
+      go b bit apart = absurd (apart refl)

@@ -75,23 +75,16 @@ module _ (before : ℕ → ℕ → Type 0) (way : IsWay before) (chain new : ℕ
 
     -- if v follows w, its new predecessor is that of w
     mended : (v : ℕ) (at : Option ℕ) → Beyond (Some v) → IsLast before (λ u. (chain u ≡ Some k) × before u w) at → IsLast before (λ u. (new u ≡ Some k) × before u v) at
-    mended v None after none = λ u in_new. absurd (none u (let old = was u k in_new.0 in (old.1, first u old.0 old.1 in_new.1)))
-      where
-        first : (u : ℕ) → u ≢ w → chain u ≡ Some k → before u v → before u w
-        first u differs is lower = elim (way.either u w differs) [
-          | inl found ↦ found
-          | inr higher ↦ absurd (way.never v (way.along v u v (after.1 u (is, higher) (apart u v lower)) lower))
-        ]
-    mended v (Some y) after (here, others) = (
-      (stays y k here.0 (apart y w here.1), way.along y w v here.1 after.0.1),
-      λ u in_new differs. let old = was u k in_new.0 in others u (old.1, first u old.0 old.1 in_new.1) differs,
-    )
-      where
-        first : (u : ℕ) → u ≢ w → chain u ≡ Some k → before u v → before u w
-        first u differs is lower = elim (way.either u w differs) [
-          | inl found ↦ found
-          | inr higher ↦ absurd (way.never v (way.along v u v (after.1 u (is, higher) (apart u v lower)) lower))
-        ]
+    mended v at after =
+        last_same before (λ u. (chain u ≡ Some k) × before u w) (λ u. (new u ≡ Some k) × before u v) at
+        (λ u is. (stays u k is.0 (apart u w is.1), way.along u w v is.1 after.0.1))
+        (λ u is. let old = was u k is.0 in (
+          old.1,
+          elim (way.either u w old.0) [
+            | inl found ↦ found
+            | inr higher ↦ absurd (way.never v (way.along v u v (after.1 u (old.1, higher) (apart u v is.1)) is.1))
+          ],
+        ))
 
     -- if v does not follow w, its predecessor is not w
     not_w : (v : ℕ) (after : Option ℕ) → Beyond after → after ≢ Some v → chain v ≡ Some k → before w v → ((u : ℕ) → (chain u ≡ Some k) × before u v → u ≢ w → before u w) → ⊥
@@ -156,9 +149,9 @@ module _ (before : ℕ → ℕ → Type 0) (way : IsWay before) (chain new : ℕ
         (stays y k here not_gone, λ u is differs. others u (was u k is).1 differs)
 
     end_kept : (j : Chain) (end : Option ℕ) → j ≢ k → IsLast before (λ u. chain u ≡ Some j) end → IsLast before (λ u. new u ≡ Some j) end
-    end_kept j None other none = λ u is. none u (was u j is).1
-    end_kept j (Some y) other (here, others) =
-        (stays y j here (λ same. other (same_value j k (sym here ∙ ap chain same ∙ left.here))), λ u is differs. others u (was u j is).1 differs)
+    end_kept j end other =
+        last_same before (λ u. chain u ≡ Some j) (λ u. new u ≡ Some j) end
+        (λ u is. stays u j is (λ same. other (same_value j k (sym is ∙ ap chain same ∙ left.here)))) (λ u is. (was u j is).1)
 
     pub left_ended : (next : ℕ → Option ℕ) (end new_end : Chain → Option ℕ) (after : Option ℕ) → Beyond after
         → new_end k ≡ at_end after (next w) (end k)
@@ -183,17 +176,12 @@ module _ (before : ℕ → ℕ → Type 0) (way : IsWay before) (chain new : ℕ
 
     -- the predecessor of w
     arrived : (at : Option ℕ) → IsLast before (λ u. (chain u ≡ Some k) × before u w) at → IsLast before (λ u. (new u ≡ Some k) × before u w) at
-    arrived None none = λ u in_new. elim (since u k in_new.0) [
-      | inl same ↦ apart u w in_new.1 same.0
-      | inr old ↦ none u (old.1, in_new.1)
-    ]
-    arrived (Some y) (here, others) = (
-      (remains y k here.0, here.1),
-      λ u in_new differs. elim (since u k in_new.0) [
-        | inl same ↦ absurd (apart u w in_new.1 same.0)
-        | inr old ↦ others u (old.1, in_new.1) differs
-      ],
-    )
+    arrived at =
+        last_same before (λ u. (chain u ≡ Some k) × before u w) (λ u. (new u ≡ Some k) × before u w) at (λ u is. (remains u k is.0, is.1))
+        (λ u is. elim (since u k is.0) [
+          | inl same ↦ absurd (apart u w is.1 same.0)
+          | inr old ↦ (old.1, is.1)
+        ])
 
     -- w is the predecessor of the row that follows it
     follows : (v : ℕ) → Beyond (Some v) → IsLast before (λ u. (new u ≡ Some k) × before u v) (Some w)
@@ -293,17 +281,12 @@ module _ (before : ℕ → ℕ → Type 0) (way : IsWay before) (chain new : ℕ
     )
 
     end_unmoved : (j : Chain) (end : Option ℕ) → j ≢ k → IsLast before (λ u. chain u ≡ Some j) end → IsLast before (λ u. new u ≡ Some j) end
-    end_unmoved j None other none = λ u is. elim (since u j is) [
-      | inl same ↦ other (sym same.1)
-      | inr old ↦ none u old.1
-    ]
-    end_unmoved j (Some y) other (here, others) = (
-      remains y j here,
-      λ u is differs. elim (since u j is) [
-        | inl same ↦ absurd (other (sym same.1))
-        | inr old ↦ others u old.1 differs
-      ],
-    )
+    end_unmoved j end other =
+        last_same before (λ u. chain u ≡ Some j) (λ u. new u ≡ Some j) end (λ u is. remains u j is)
+        (λ u is. elim (since u j is) [
+          | inl same ↦ absurd (other (sym same.1))
+          | inr old ↦ old.1
+        ])
 
     pub come_ended : (end new_end : Chain → Option ℕ) (after : Option ℕ) → Beyond after
         → new_end k ≡ at_end after (Some w) (end k)

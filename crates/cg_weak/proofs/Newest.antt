@@ -48,17 +48,12 @@ module _ (test : Row → Bool) (p : ℕ → Bool) (x : Row) (rows : List Row) (l
 
   -- the head fails a test
   skips : (a : Option ℕ) → (test x ≡ true → p x.weak ≡ true → ⊥) → IsLast below (PassesBoth test p rows) a → IsLast below (PassesBoth test p (x ∷ rows)) a
-  skips None fails none = λ v in_all. elim (split v in_all) [
-    | inl here ↦ fails here.1 here.2
-    | inr rest ↦ none v rest
-  ]
-  skips (Some y) fails (here, others) = (
-    later y here,
-    λ v in_all differs. elim (split v in_all) [
-      | inl is ↦ absurd (fails is.1 is.2)
-      | inr rest ↦ others v rest differs
-    ],
-  )
+  skips a fails =
+      last_same below (PassesBoth test p rows) (PassesBoth test p (x ∷ rows)) a later
+      (λ v in_all. elim (split v in_all) [
+        | inl here ↦ absurd (fails here.1 here.2)
+        | inr rest ↦ rest
+      ])
 
   -- the head passes both tests
   counts : (a : Option ℕ) → test x ≡ true → p x.weak ≡ true → IsLast below (PassesBoth test p rows) a → IsLast below (PassesBoth test p (x ∷ rows)) (option_or a (Some x.weak))

@@ -24,17 +24,6 @@ row_at-below weak (r ∷ rows) lower =
     ap (λ b. cond b (Some r) (row_at rows weak)) (ne_eqb r.weak weak (λ same. absurd (omega (arith, same, here))))
     ∙ row_at-below weak rows (All-tail (λ x. weak < x.weak) r rows lower)
 
--- the row found has the weak reference searched for
-pub row_at-weak : (rows : List Row) (weak : ℕ) (r : Row) → row_at rows weak ≡ Some r → r.weak ≡ weak
-row_at-weak [] weak r found = absurd (cc)
-row_at-weak (x ∷ rows) weak r found = elim (cases_eq x.weak weak) [
-  | inl same ↦
-      let here : Some x ≡ Some r = sym (ap (λ b. cond b (Some x) (row_at rows weak)) (eq-eqb x.weak weak same)) ∙ found in
-      let is : x ≡ r = cc in
-      ap (λ (y : Row). y.weak) (sym is) ∙ same
-  | inr differs ↦ row_at-weak rows weak r (sym (ap (λ b. cond b (Some x) (row_at rows weak)) (ne_eqb x.weak weak differs)) ∙ found)
-]
-
 -- so it is above every lower bound of the rows
 pub found_above : (low : ℕ) (rows : List Row) (weak : ℕ) (r : Row) → AllAbove low rows → row_at rows weak ≡ Some r → low < weak
 found_above low [] weak r lower found = absurd (cc)
@@ -250,12 +239,9 @@ referent_found test (x ∷ rows) weak rise = go (cases_eq x.weak weak) (referent
         ∙ here (test x)
         ∙ sym (ap (λ b. referent_if test (cond b (Some x) (row_at rows weak))) (eq-eqb x.weak weak same))
       where
-        absent : found rows ≡ None
-        absent = rest ∙ ap (referent_if test) (row_at-below weak rows (subst (λ w. AllAbove w rows) same rise.0))
-
         here : (b : Bool) → option_map (λ r. r.referent) (cond b (Some x) (find (λ r. (r.weak == weak) && test r) rows)) ≡ (if b then Some x.referent else None)
         here true = refl
-        here false = absent
+        here false = rest ∙ ap (referent_if test) (row_at-below weak rows (subst (λ w. AllAbove w rows) same rise.0))
     go (inr differs) rest =
         ap (λ b. option_map (λ r. r.referent) (cond (b && test x) (Some x) (find (λ r. (r.weak == weak) && test r) rows))) (ne_eqb x.weak weak differs)
         ∙ rest

@@ -26,9 +26,6 @@ row-tied newer now_older older now_newer v o =
 pub chains_there : (node : ℕ → Option Node) (chains : List (ℕ × Chains)) → IsSound node (ends_at chains) → (w : ℕ) (n : Node) → node w ≡ Some n → IsSome (lookup (nat_eq n.referent) chains)
 chains_there node chains sound w n is = go (lookup (nat_eq n.referent) chains) refl
   where
-    k : Chain
-    k = (n.referent, n.waits)
-
     empty : (b : Bool) → (ends_of no_chains b).newest ≡ None
     empty true = refl
     empty false = refl

@@ -1,5 +1,5 @@
 -- What a step other than a command's does to names, objects and the stack.
-use Rattle.std.proofs.Common.{◌≡◌, refl, sym, ap, subst, ℕ, ◌-◌, Bool, true, false, inl, inr, ◌⊎◌, List, [], ◌∷◌, ◌++◌, map, Some, None}
+use Rattle.std.proofs.Common.{◌≡◌, refl, sym, ap, subst, ℕ, Bool, true, inl, inr, ◌⊎◌, List, [], ◌∷◌, ◌++◌, map, Some, None}
 use Rattle.std.specs.Prelude.{◌==◌, if◌then◌else◌, flat_map, unwrap_or}
 use Rattle.cg_value.specs.declared.Place.{Place}
 use Rattle.cg_value.specs.declared.Place.TheVariants.{Gen}
@@ -14,14 +14,15 @@ use Rattle.cg_machine.specs.declared.event.FrameSort.{FrameSort}
 use Rattle.cg_machine.specs.declared.event.FrameSort.TheVariants.{Del, Legacy, Callback, Call}
 use Rattle.cg_machine.specs.declared.event.FrameSpec.{FrameSpec}
 use Rattle.cg_machine.specs.Program.{body_of, finalizer_of, legacy_of}
-use Rattle.cg_machine.specs.World.{World, Activity, TopLevel, Framed, Releasing, Dying, Death, Collecting, ShuttingDown, Frame, Clearing, CollectPhase, WeakClearing, WeakCalling, AfterCallback, AfterRelease, BudgetIsSpent}
-use Rattle.cg_machine.specs.Frame.{Transition, Yields, procedure_of, start_frame}
+use Rattle.cg_machine.specs.World.{World, Activity, Framed, Releasing, Dying, Death, Collecting, Frame, Clearing, CollectPhase, WeakClearing, WeakCalling, AfterCallback, AfterRelease, BudgetIsSpent}
+use Rattle.cg_machine.specs.Frame.{Transition, procedure_of, start_frame}
 use Rattle.cg_machine.specs.Weak.{callback_of, loses_referent}
 use Rattle.cg_machine.specs.Collect.{IsMemberOf, Survives, is_condemned, merged}
 use Rattle.cg_represents.specs.Orderly.{death_waits}
-use Rattle.cg_laws.proofs.Unreferred.{IsLater, later_refl, later_trans}
+use Rattle.cg_laws.proofs.Unreferred.{IsLater, later_refl, later_trans, place_later}
 use Rattle.cg_laws.specs.Apart.{IsFound}
 use Rattle.cg_laws.proofs.Pointwise.{IsOrder, Came, came, came_if}
+use Rattle.cg_laws.proofs.Starting.{starts_either}
 
 -- the weak references whose callbacks are still to run
 abbrev pub to_call_in : CollectPhase → List ℕ
@@ -32,12 +33,9 @@ to_call_in (AfterRelease weak waiting) = waiting
 to_call_in phase = []
 
 abbrev pub to_call : Activity → List ℕ
-to_call (TopLevel commands) = []
-to_call (Framed f) = []
-to_call (Releasing references) = []
 to_call (Dying d) = death_waits d.phase
 to_call (Collecting c) = to_call_in c.phase
-to_call (ShuttingDown started) = []
+to_call a = []
 
 abbrev pub all_to_call : List Activity → List ℕ
 all_to_call stack = flat_map to_call stack
@@ -73,12 +71,11 @@ pub record IsBegun (script : Script) (w : World) (f : Frame) : Type 0 where
 
 -- what such a step may leave on the stack
 abbrev pub IsRaised : Script → World → Activity → Type 0
-IsRaised script w (TopLevel commands) = ⊥
 IsRaised script w (Framed f) = IsBegun script w f
 IsRaised script w (Releasing references) = Unit {0}
 IsRaised script w (Dying d) = (weak : ℕ) → Includes (death_waits d.phase) weak → Waited w weak
 IsRaised script w (Collecting c) = (weak : ℕ) → Includes (to_call_in c.phase) weak → Waited w weak
-IsRaised script w (ShuttingDown started) = ⊥
+IsRaised script w a = ⊥
 
 -- an object is condemned or uncollectable
 abbrev pub IsAside : World → ℕ → Type 0
@@ -136,14 +133,26 @@ pub grows_if : (w : World) (f : Object → Object) (test : Object → Bool) (obj
     → Ages w x (f x)) → Grows w objects (map (λ x. if test x then f x else x) objects)
 grows_if w = came_if (Ages w) (same_ages w)
 
+-- in another place
+pub placed_ages : (w : World) (p : Place) (x : Object) → (IsFound p → IsFound x.place ⊎ IsCollected w x.serial) → Ages w x (with_place p x)
+placed_ages w p x place = record { later = place_later p x; refers = λ n i. inl i; place = place }
+
 -- a place of unpartitioned objects
+pub grows_at : (w : World) (p : Place) (test : Object → Bool) (objects : List Object) → ¬ IsFound p → Grows w objects (map (λ x. if test x then with_place p x else x) objects)
+grows_at w p test objects apart = grows_if w (with_place p) test objects (λ x m t. placed_ages w p x (λ f. absurd (apart f)))
+
 pub grows_place : (w : World) (p : Place) (s : ℕ) (objects : List Object) → ¬ IsFound p → Grows w objects (change (with_place p) s objects)
-grows_place w p s objects apart = grows_if w (with_place p) (λ x. x.serial == s) objects
-    (λ x m t. record { later = record { serial = refl; code = refl; class = refl; referent = inl refl }; refers = λ n i. inl i; place = λ f. absurd (apart f) })
+grows_place w p s = grows_at w p (λ x. x.serial == s)
+
+pub lost_ages : (w : World) (x : Object) → Ages w x (with_referent None x)
+lost_ages w x = record { later = record { serial = refl; code = refl; class = refl; referent = inr refl }; refers = λ n i. inl i; place = λ f. inl f }
 
 pub grows_lost : (w : World) (s : ℕ) (objects : List Object) → Grows w objects (loses_referent s objects)
-grows_lost w s objects = grows_if w (with_referent None) (λ x. x.serial == s) objects
-    (λ x m t. record { later = record { serial = refl; code = refl; class = refl; referent = inr refl }; refers = λ n i. inl i; place = λ f. inl f })
+grows_lost w s objects = grows_if w (with_referent None) (λ x. x.serial == s) objects (λ x m t. lost_ages w x)
+
+pub yields_acts : {script : Script} {w : World} {below : List Activity} {told events : List Event} {next after : World} → (events ≡ told) × (after ≡ next)
+    → Acts script w below told next → Acts script w below events after
+yields_acts {script} {w} {below} {told} {events} {next} {after} step h = subst (λ es. Acts script w below es after) (sym step.0) (subst (Acts script w below told) (sym step.1) h)
 
 module _ (script : Script) (w : World) (below : List Activity) where
   -- a step that starts no callback
@@ -167,18 +176,21 @@ module _ (script : Script) (w : World) (below : List Activity) where
   two_raised s t h k a (inl e) = subst (IsRaised script w) e h
   two_raised s t h k a (inr m) = one_raised t k a m
 
-  pub yields_acts : (t : Transition) (events : List Event) (after : World) → Yields t events after → Acts script w below t.0 t.1 → Acts script w below events after
-  yields_acts t events after step h = subst (λ es. Acts script w below es after) (sym step.0) (subst (Acts script w below t.0) (sym step.1) h)
-
-  pub either_acts : (t : Bool) (x y : Transition) → Acts script w below x.0 x.1 → Acts script w below y.0 y.1 → (let s : Transition = if t then x else y in Acts script w below s.0 s.1)
-  either_acts true x y h k = h
-  either_acts false x y h k = k
-
   pub starts_acts : (spec : FrameSpec) (u : World) (t : Activity) → u.names ≡ w.names → u.next_serial ≡ w.next_serial → Grows w w.objects u.objects → u.stack
       ≡ t ∷ below → IsRaised script w t → BegunBy script w spec.sort spec.subject spec.proc
       → (spec.sort ≡ Callback → (rest : List ℕ) × (all_to_call w.stack ≡ spec.subject ∷ (rest ++ all_to_call below)) × ((m : ℕ) → Includes (to_call t) m
       → Includes rest m)) → (let s : Transition = start_frame script spec u in Acts script w below s.0 s.1)
-  starts_acts spec u t names serial grows stack raised by called = go (u.budget == 0)
+  starts_acts spec u t names serial grows stack raised by called = starts_either (Acts script w below) script spec u
+      (acts (BudgetSpent ∷ []) (record u { outcome = BudgetIsSpent }) names serial grows (t ∷ []) stack (one_raised t raised) (λ n m. either m (λ e. cc) (λ no. no)))
+      (λ some. record {
+        names = names;
+        serial = serial;
+        grows = grows;
+        tops = frame ∷ t ∷ [];
+        stack = ap (λ (st : List Activity). frame ∷ st) stack;
+        raised = two_raised frame t (record { proc = spec.proc; commands = refl; by = by }) raised;
+        callbacks = begins;
+      })
     where
       frame : Activity
       frame = Framed (record { sort = spec.sort; subject = spec.subject; function = spec.func; commands = body_of script spec.proc })
@@ -196,18 +208,3 @@ module _ (script : Script) (w : World) (below : List Activity) where
                 (λ is. either is (λ q. k.2 i (subst (λ (b : Activity). Includes (to_call b) i) (sym q) r)) (λ no. absurd no));
             alone = ap (λ (x : Event). x ∷ []) e;
           }
-
-      go : (b : Bool) → (let s : Transition = if b then (BudgetSpent ∷ [], record u { outcome = BudgetIsSpent }) else (
-        Enter spec.sort spec.subject ∷ [],
-        record u { budget = u.budget - 1; stack = frame ∷ u.stack },
-      ) in Acts script w below s.0 s.1)
-      go true = acts (BudgetSpent ∷ []) (record u { outcome = BudgetIsSpent }) names serial grows (t ∷ []) stack (one_raised t raised) (λ n m. either m (λ e. cc) (λ no. no))
-      go false = record {
-        names = names;
-        serial = serial;
-        grows = grows;
-        tops = frame ∷ t ∷ [];
-        stack = ap (λ (st : List Activity). frame ∷ st) stack;
-        raised = two_raised frame t (record { proc = spec.proc; commands = refl; by = by }) raised;
-        callbacks = begins;
-      }

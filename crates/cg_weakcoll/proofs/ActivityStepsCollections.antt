@@ -2,59 +2,43 @@
 use Rattle.std.proofs.Common.{◌≡◌, ◌≢◌, refl, sym, ◌∙◌, ap, subst, ℕ, ◌+◌, Bool, true, false, not, ◌&&◌, ◌||◌, inl, inr, List, [], ◌∷◌, ◌++◌, map, length, Option, Some, None}
 use Rattle.std.specs.Prelude.{◌==◌, if◌then◌else◌, filter, is_some, nat_le, option_and_then, option_map, unwrap_or}
 use Rattle.std.proofs.lemmas.Bool.{eqb-true}
-use Rattle.cg_value.specs.declared.Entry.{Entry}
 use Rattle.cg_value.specs.declared.Place.{Place}
-use Rattle.cg_value.specs.declared.Place.TheVariants.{Untracked, Gen, Frozen, Cand, Seen, Back, Legacy, Pend}
+use Rattle.cg_value.specs.declared.Place.TheVariants.{Untracked, Gen, Cand, Seen, Legacy, Pend}
 use Rattle.cg_value.specs.declared.Val.TheVariants.{Ref}
 use Rattle.cg_script.specs.declared.Script.{Script}
 use Rattle.cg_graph.specs.Member.{Includes, includes}
 use Rattle.cg_graph.specs.Value.{entry_references, item, last_entry}
-use Rattle.cg_graph.specs.Object.{Object, change, entries_of, is_at, is_in_map, is_tuple, marked, object_at, objects_at, same_place, serials, serials_at, with_entries, with_place}
+use Rattle.cg_graph.specs.Object.{Object, change, entries_of, is_at, marked, object_at, objects_at, same_place, serials, serials_at, with_entries, with_place}
 use Rattle.cg_graph.proofs.Members.{either, true_and, true_or, Includes-append_cases, Includes-append_left, Includes-filter, Includes-filter_cases, Includes-map, Includes-map_cases}
 use Rattle.cg_machine.specs.declared.event.Event.{Event}
 use Rattle.cg_machine.specs.declared.event.Event.TheVariants.{Alive, Cleared, Collected, Enter, GcCollectable, GcSaved, GcStart, GcStop, GcUncollectable}
 use Rattle.cg_machine.specs.declared.event.FrameSort.TheVariants.{Del, Callback}
-use Rattle.cg_machine.specs.Program.{legacy_of, profile_of}
+use Rattle.cg_machine.specs.Program.{legacy_of}
 use Rattle.cg_machine.specs.World.{World, Activity, Releasing, Collecting, Collection, CollectPhase, Start, WeakClearing, WeakCalling, AfterCallback, AfterRelease, Finalizing, AfterFinalizing, Split, Turns, Turn, AfterTurn, Ending, push, with_change, with_objects}
 use Rattle.cg_machine.specs.Frame.{Transition, procedure_of}
 use Rattle.cg_machine.specs.Weak.{AllLose, callback_of, loses_referent}
 use Rattle.cg_machine.specs.Dying.{finalizer_to_run}
 use Rattle.cg_machine.specs.Effects.{gens_line}
-use Rattle.cg_machine.specs.Collect.{EndStep, FinalizingStep, PhaseStep, SplitStep, StartStep, TurnsStep, WeakClearingStep, after_release, all_saved, calls_back, clears_one, collectable, collection_at, empties, get_older, has_flag, is_condemned, is_condemned_in, is_saved, lines_if, looks_at, merged, merged_place, older, replaced_place, save_all, saved, sorted, stats, takes_turn, uncollectable, waits}
+use Rattle.cg_machine.specs.Collect.{PhaseStep, StartStep, after_release, all_saved, calls_back, clears_one, collectable, collection_at, empties, get_older, has_flag, is_condemned, is_condemned_in, is_saved, lines_if, looks_at, merged, merged_place, older, replaced_place, save_all, saved, sorted, stats, takes_turn, uncollectable, waits}
 use Rattle.cg_laws.proofs.Lookups.{at_member, references-append, same_object}
 use Rattle.cg_represents.proofs.Lists.{found_at}
 use Rattle.cg_represents.proofs.Serials.{Rises}
 use Rattle.cg_laws.proofs.LinesNameLive.{same_lives}
 use Rattle.cg_laws.specs.Apart.{IsFound}
-use Rattle.cg_weakcoll.proofs.ActivitySteps.{Acts, Ages, ages, Grows, IsAside, Loses, Waited, acts, all_to_call, either_acts, grows_if, grows_lost, grows_place, grows_same, grows_trans, one_raised, starts_acts, to_call_in, two_raised, yields_acts}
+use Rattle.cg_weakcoll.proofs.ActivitySteps.{Acts, Ages, ages, Grows, IsAside, Loses, Waited, acts, all_to_call, grows_at, grows_if, grows_lost, grows_place, grows_same, grows_trans, lost_ages, one_raised, placed_ages, starts_acts, to_call_in, two_raised, yields_acts}
 use Rattle.cg_weakcoll.proofs.ActivityStepsDeaths.{shortened_grows, to_run_is}
 use Rattle.cg_laws.proofs.Pointwise.{all_saved_by, came, came_all_lose}
+use Rattle.cg_laws.proofs.Starting.{turn_either, called_back_either, option_either}
 
 -- distinct places
 found_at_place : (p q : Place) → IsFound q → same_place p q ≡ true → IsFound p
 found_at_place Cand q f e = tt
 found_at_place Seen q f e = tt
 found_at_place Legacy q f e = tt
-found_at_place Untracked Cand f e = cc
-found_at_place Untracked Seen f e = cc
-found_at_place Untracked Legacy f e = cc
-found_at_place Untracked q f e = absurd f
-found_at_place (Gen i) Cand f e = cc
-found_at_place (Gen i) Seen f e = cc
-found_at_place (Gen i) Legacy f e = cc
-found_at_place (Gen i) q f e = absurd f
-found_at_place Frozen Cand f e = cc
-found_at_place Frozen Seen f e = cc
-found_at_place Frozen Legacy f e = cc
-found_at_place Frozen q f e = absurd f
-found_at_place Back Cand f e = cc
-found_at_place Back Seen f e = cc
-found_at_place Back Legacy f e = cc
-found_at_place Back q f e = absurd f
-found_at_place Pend Cand f e = cc
-found_at_place Pend Seen f e = cc
-found_at_place Pend Legacy f e = cc
-found_at_place Pend q f e = absurd f
+found_at_place p Cand f e = cc
+found_at_place p Seen f e = cc
+found_at_place p Legacy f e = cc
+found_at_place p q f e = absurd f
 
 merged_found : (g : ℕ) (p : Place) → IsFound (merged_place g p) → IsFound p
 merged_found g (Gen i) f = go (nat_le i g) f
@@ -65,10 +49,7 @@ merged_found g (Gen i) f = go (nat_le i g) f
 merged_found g Cand f = tt
 merged_found g Seen f = tt
 merged_found g Legacy f = tt
-merged_found g Untracked f = f
-merged_found g Frozen f = f
-merged_found g Back f = f
-merged_found g Pend f = f
+merged_found g p f = f
 
 survivor_apart : (b : Bool) (n : ℕ) → ¬ IsFound (if b then Untracked else Gen n)
 survivor_apart true n f = f
@@ -97,8 +78,8 @@ module _ (script : Script) (c : Collection) (below : List Activity) (v : World) 
   abbrev at : CollectPhase → World
   at phase = collection_at c phase below v
 
-  to : (w after next : World) (events : List Event) → after ≡ next → Acts script w below events next → Acts script w below events after
-  to w after next events e h = subst (Acts script w below events) (sym e) h
+  to : {w after next : World} {events : List Event} → after ≡ next → Acts script w below events next → Acts script w below events after
+  to {w} {after} {next} {events} e h = subst (Acts script w below events) (sym e) h
 
   goes : (phase : CollectPhase) (d : Collection) (events : List Event) (after : World) → after.names ≡ v.names → after.next_serial ≡ v.next_serial → after.stack
       ≡ Collecting d ∷ below → Grows (at phase) v.objects after.objects
@@ -127,16 +108,12 @@ module _ (script : Script) (c : Collection) (below : List Activity) (v : World) 
     one_started x m true t =
         let there : Includes (objects_at (merged c.generation (at Start)).objects (Gen c.generation)) (in_merge x) = Includes-filter (is_at (Gen c.generation))
         (merged c.generation (at Start)).objects (in_merge x) t (Includes-map in_merge v.objects x m) in
-        record {
-          later = record { serial = refl; code = refl; class = refl; referent = inl refl };
-          refers = λ n i. inl i;
-          place = λ f. inr (
-            c.generation,
-            Includes-map (λ (z : Object). z.serial) (objects_at (merged c.generation (at Start)).objects (Gen c.generation)) (in_merge x) there,
-            λ s. survivor_apart _ _ (subst IsFound (step.sorts.survivors (in_merge x) there s) f),
-          );
-        }
-    one_started x m false t = record { later = record { serial = refl; code = refl; class = refl; referent = inl refl }; refers = λ n i. inl i; place = λ f. inl (merged_found c.generation x.place f) }
+        placed_ages (at Start) (step.places (in_merge x)) x (λ f. inr (
+          c.generation,
+          Includes-map (λ (z : Object). z.serial) (objects_at (merged c.generation (at Start)).objects (Gen c.generation)) (in_merge x) there,
+          λ s. survivor_apart _ _ (subst IsFound (step.sorts.survivors (in_merge x) there s) f),
+        ))
+    one_started x m false t = placed_ages (at Start) (merged_place c.generation x.place) x (λ f. inl (merged_found c.generation x.place f))
 
     start_grows : Grows (at Start) v.objects (sorted c.generation step.places (map in_merge v.objects))
     start_grows y m =
@@ -157,7 +134,7 @@ module _ (script : Script) (c : Collection) (below : List Activity) (v : World) 
         (subst (λ (es : List Event). Includes es (Enter Callback n)) step.lines m)
 
     start_acts : Acts script (at Start) below events after
-    start_acts = subst (λ (u : World). Acts script (at Start) below events u) (sym step.world) (goes Start (record c { phase = WeakClearing [] }) events _ refl
+    start_acts = to step.world (goes Start (record c { phase = WeakClearing [] }) events _ refl
         refl refl start_grows (λ weak m. absurd m) start_none)
 
   referent_of : (w : World) → w.objects ≡ v.objects → (x : Object) → Includes v.objects x → (test : Bool) (r : Option ℕ) → x.referent ≡ r → waits v.objects x.serial ≡ true
@@ -176,9 +153,64 @@ module _ (script : Script) (c : Collection) (below : List Activity) (v : World) 
         absurd (let no : false ≡ true = sym (ap not (own ∙ k)) ∙ calm in cc)));
   }
 
-  weak_clearing_acts : (waiting : List ℕ) (events : List Event) (after : World) → WeakClearingStep (profile_of script.items) c waiting below
-      (at (WeakClearing waiting)) events after → Acts script (at (WeakClearing waiting)) below events after
-  weak_clearing_acts waiting events after (inl step) = yields_acts script w below (clears_one c waiting below w step.weak) events after step.yields (go (waits v.objects step.weak) refl)
+  weak_calling_acts : (waiting : List ℕ) → (let t : Transition = calls_back script c waiting below (at (WeakCalling waiting)) in Acts script (at (WeakCalling waiting)) below t.0 t.1)
+  weak_calling_acts [] = goes (WeakCalling []) (record c { phase = Finalizing }) [] _ refl refl refl (same (WeakCalling [])) (λ weak m. absurd m) (λ n m. m)
+  weak_calling_acts (weak ∷ waiting) =
+      let w : World = at (WeakCalling (weak ∷ waiting)) in
+      let callback = unwrap_or (callback_of v.objects weak) 0 in
+      starts_acts script w below (record { sort = Callback; proc = procedure_of w callback; subject = weak; func = Some callback })
+      (collection_at c (AfterCallback weak waiting) below w) (Collecting (record c { phase = AfterCallback weak waiting })) refl refl
+      (same (WeakCalling (weak ∷ waiting))) refl
+      (λ n m. waits_still (WeakCalling (weak ∷ waiting)) n (inr m)) (inl refl, refl) (λ s. (waiting, refl, λ m i. i))
+
+  after_release_acts : (weak : ℕ) (waiting : List ℕ) → (let t : Transition = after_release c weak waiting below (at (AfterRelease weak waiting))
+      in Acts script (at (AfterRelease weak waiting)) below t.0 t.1)
+  after_release_acts weak waiting = called_back_either (Acts script (at (AfterRelease weak waiting)) below) c weak waiting below (at (AfterRelease weak waiting))
+      (λ t. goes (AfterRelease weak waiting) (record c { phase = WeakCalling waiting }) [] _ refl refl refl (grows_place (at (AfterRelease weak waiting))
+      (Gen (older c.generation)) weak v.objects (λ f. f)) (waits_still (AfterRelease weak waiting)) (λ n m. m))
+      (λ t. goes (AfterRelease weak waiting) (record c { collected = c.collected + 1; phase = WeakCalling waiting }) [] _ refl refl refl
+      (same (AfterRelease weak waiting)) (waits_still (AfterRelease weak waiting)) (λ n m. m))
+
+  -- a condemned object is visited
+  seen_ages : (f : Object → Object) (o : ℕ) → Includes (serials_at v.objects Cand) o → ((x : Object) → Includes v.objects x → IsFound x.place
+      → Ages (at Finalizing) x (f x)) → Grows (at Finalizing) v.objects (change f o v.objects)
+  seen_ages f o cand h = grows_if (at Finalizing) f (λ x. x.serial == o) v.objects (λ x m t.
+      let z = Includes-map_cases (λ (q : Object). q.serial) (objects_at v.objects Cand) o cand in
+      let k = Includes-filter_cases (is_at Cand) v.objects z.0 z.1 in
+      let is : z.0 ≡ x = same_object 1 v.next_serial v.objects z.0 x rises k.0 m (z.2 ∙ sym (eqb-true x.serial o t)) in
+      h x m (found_at_place x.place Cand tt (subst (λ (q : Object). is_at Cand q ≡ true) is k.1)))
+
+  -- the second reachability pass
+  all_lose_grows : (w : World) (wanted : Object → Bool) (weaks : List ℕ) (objects after : List Object) → AllLose wanted objects weaks after → Grows w objects after
+  all_lose_grows w = came_all_lose (Ages w) (ages w) (lost_ages w)
+
+  -- a saved object was partitioned
+  saved_grows : (w : World) (o : ℕ) (objects : List Object) → IsAside w o → Grows w objects (saved o objects)
+  saved_grows w o objects aside = grows_if w (λ x. with_entries (x.entries ++ item (Ref o) ∷ []) x) (λ x. x.serial == 1) objects (λ x m t. record {
+    later = record { serial = refl; code = refl; class = refl; referent = inl refl };
+    refers = λ n i. either (references-append x.entries (item (Ref o) ∷ []) n i) (λ k. inl k) (λ k. either k (λ e. inr (subst (IsAside w) e aside)) (λ no. absurd no));
+    place = λ f. inl f;
+  })
+
+  all_saved_grows : (w : World) (keeps : List ℕ) (objects : List Object) → ((o : ℕ) → Includes keeps o → IsAside w o) → Grows w objects (all_saved keeps objects)
+  all_saved_grows w keeps objects aside = all_saved_by (Grows w) (came (Ages w) (ages w)) keeps (λ o m now. saved_grows w o now (aside o m)) objects
+
+  turn_acts : (x : Object) → Includes (objects_at v.objects Cand) x → (let t : Transition = takes_turn c x below (at Turns) in Acts script (at Turns) below t.0 t.1)
+  turn_acts x member = turn_either (Acts script (at Turns) below) c x below (at Turns)
+      (λ t. goes Turns (record c { phase = Turns }) (GcSaved x.serial ∷ []) _ refl refl refl
+      (grows_trans (at Turns) v.objects (saved x.serial v.objects) (change (with_place (Gen (older c.generation))) x.serial (saved x.serial v.objects))
+      (saved_grows (at Turns) x.serial v.objects aside) (grows_place (at Turns) (Gen (older c.generation)) x.serial (saved x.serial v.objects)
+      (λ f. f)))
+      (λ weak m. absurd m) (λ n m. either m (λ e. cc) (λ no. no)))
+      (λ t s. goes Turns (record c { phase = Turns }) [] _ refl refl refl (grows_place (at Turns) (Gen (older c.generation)) x.serial v.objects (λ f. f)) (λ weak m. absurd m) (λ n m. m))
+      (λ t s. goes Turns (record c { phase = Turn x.serial }) [] _ refl refl refl (same Turns) (λ weak m. absurd m) (λ n m. m))
+    where
+      aside : IsAside (at Turns) x.serial
+      aside = let k = Includes-filter_cases (is_at Cand) v.objects x member in (x, k.0, refl, found_at_place x.place Cand tt k.1)
+
+  pub phase_acts : (phase : CollectPhase) (events : List Event) (after : World) → PhaseStep script c phase below (at phase) events after → Acts script (at phase) below events after
+  phase_acts Start events after step = start_acts events after step
+  phase_acts (WeakClearing waiting) events after (inl step) = yields_acts step.yields (go (waits v.objects step.weak) refl)
     where
       w : World
       w = at (WeakClearing waiting)
@@ -202,126 +234,46 @@ module _ (script : Script) (c : Collection) (below : List Activity) (v : World) 
           (λ n m. either (Includes-append_cases waiting (step.weak ∷ []) n m) (waits_still (WeakClearing waiting) n) (λ i. either i (λ e. inr (subst (Loses w) e (loses t))) (λ no. absurd no))) none
       go false t = goes (WeakClearing waiting) (record c { phase = WeakClearing waiting }) (Cleared step.weak ∷ []) _ refl refl refl
           (grows_lost w step.weak v.objects) (waits_still (WeakClearing waiting)) none
-  weak_clearing_acts waiting events after (inr step) = to (at (WeakClearing waiting)) after _ events step.1.1
-      (subst (λ es. Acts script (at (WeakClearing waiting)) below es (at (WeakCalling waiting))) (sym step.1.0)
-      (goes (WeakClearing waiting) (record c { phase = WeakCalling waiting }) [] _ refl refl refl (same (WeakClearing waiting))
-      (waits_still (WeakClearing waiting)) (λ n m. m)))
-
-  weak_calling_acts : (waiting : List ℕ) → (let t : Transition = calls_back script c waiting below (at (WeakCalling waiting)) in Acts script (at (WeakCalling waiting)) below t.0 t.1)
-  weak_calling_acts [] = goes (WeakCalling []) (record c { phase = Finalizing }) [] _ refl refl refl (same (WeakCalling [])) (λ weak m. absurd m) (λ n m. m)
-  weak_calling_acts (weak ∷ waiting) =
-      let w : World = at (WeakCalling (weak ∷ waiting)) in
-      let callback = unwrap_or (callback_of v.objects weak) 0 in
-      starts_acts script w below (record { sort = Callback; proc = procedure_of w callback; subject = weak; func = Some callback })
-      (collection_at c (AfterCallback weak waiting) below w) (Collecting (record c { phase = AfterCallback weak waiting })) refl refl
-      (same (WeakCalling (weak ∷ waiting))) refl
-      (λ n m. waits_still (WeakCalling (weak ∷ waiting)) n (inr m)) (inl refl, refl) (λ s. (waiting, refl, λ m i. i))
-
-  after_release_acts : (weak : ℕ) (waiting : List ℕ) → (let t : Transition = after_release c weak waiting below (at (AfterRelease weak waiting))
-      in Acts script (at (AfterRelease weak waiting)) below t.0 t.1)
-  after_release_acts weak waiting = either_acts script (at (AfterRelease weak waiting)) below (is_in_map v.objects weak)
-      ([], collection_at c (WeakCalling waiting) below (with_change (with_place (Gen (older c.generation))) weak (at (AfterRelease weak waiting))))
-      ([], collection_at (record c { collected = c.collected + 1 }) (WeakCalling waiting) below (at (AfterRelease weak waiting)))
-      (goes (AfterRelease weak waiting) (record c { phase = WeakCalling waiting }) [] _ refl refl refl (grows_place (at (AfterRelease weak waiting))
-      (Gen (older c.generation)) weak v.objects (λ f. f)) (waits_still (AfterRelease weak waiting)) (λ n m. m))
-      (goes (AfterRelease weak waiting) (record c { collected = c.collected + 1; phase = WeakCalling waiting }) [] _ refl refl refl
-      (same (AfterRelease weak waiting)) (waits_still (AfterRelease weak waiting)) (λ n m. m))
-
-  -- a condemned object is visited
-  seen_ages : (f : Object → Object) (o : ℕ) → Includes (serials_at v.objects Cand) o → ((x : Object) → Includes v.objects x → IsFound x.place
-      → Ages (at Finalizing) x (f x)) → Grows (at Finalizing) v.objects (change f o v.objects)
-  seen_ages f o cand h = grows_if (at Finalizing) f (λ x. x.serial == o) v.objects (λ x m t.
-      let z = Includes-map_cases (λ (q : Object). q.serial) (objects_at v.objects Cand) o cand in
-      let k = Includes-filter_cases (is_at Cand) v.objects z.0 z.1 in
-      let is : z.0 ≡ x = same_object 1 v.next_serial v.objects z.0 x rises k.0 m (z.2 ∙ sym (eqb-true x.serial o t)) in
-      h x m (found_at_place x.place Cand tt (subst (λ (q : Object). is_at Cand q ≡ true) is k.1)))
-
-  looks_at_acts : (o : ℕ) → Includes (serials_at v.objects Cand) o → (m : Option ℕ) → option_and_then (finalizer_to_run script) (object_at v.objects o) ≡ m
-      → (let t : Transition = looks_at script c o below (at Finalizing) m in Acts script (at Finalizing) below t.0 t.1)
-  looks_at_acts o cand None e = goes Finalizing (record c { phase = Finalizing }) [] _ refl refl refl (seen_ages (with_place Seen) o cand
-      (λ x m f. record { later = record { serial = refl; code = refl; class = refl; referent = inl refl }; refers = λ n i. inl i; place = λ g. inl f })) (λ weak
-      m. absurd m) (λ n m. m)
-  looks_at_acts o cand (Some p) e = starts_acts script (at Finalizing) below (record { sort = Del; proc = p; subject = o; func = None })
-      (collection_at c (AfterFinalizing o) below (with_change (λ x. marked (with_place Seen x)) o (at Finalizing)))
-      (Collecting (record c { phase = AfterFinalizing o })) refl refl
-      (seen_ages (λ x. marked (with_place Seen x)) o cand (λ x m f. record {
+  phase_acts (WeakClearing waiting) events after (inr step) = yields_acts step.1 (goes (WeakClearing waiting) (record c { phase = WeakCalling waiting }) [] _
+      refl refl refl (same (WeakClearing waiting)) (waits_still (WeakClearing waiting)) (λ n m. m))
+  phase_acts (WeakCalling waiting) events after step = yields_acts step (weak_calling_acts waiting)
+  phase_acts (AfterCallback weak waiting) events after step = yields_acts step (gives (AfterCallback weak waiting) (weak ∷ [])
+      (record c { phase = AfterRelease weak waiting }) _ refl refl refl (same (AfterCallback weak waiting)) (waits_still (AfterCallback weak waiting)))
+  phase_acts (AfterRelease weak waiting) events after step = yields_acts step (after_release_acts weak waiting)
+  phase_acts Finalizing events after (inl step) = yields_acts step.yields (option_either (Acts script (at Finalizing) below) (looks_at script c step.object below (at Finalizing)) (option_and_then (finalizer_to_run script) (object_at v.objects step.object))
+      (λ e. goes Finalizing (record c { phase = Finalizing }) [] _ refl refl refl (seen_ages (with_place Seen) step.object step.condemned
+      (λ x m f. placed_ages (at Finalizing) Seen x (λ g. inl f))) (λ weak m. absurd m) (λ n m. m))
+      (λ p e. starts_acts script (at Finalizing) below (record { sort = Del; proc = p; subject = step.object; func = None })
+      (collection_at c (AfterFinalizing step.object) below (with_change (λ x. marked (with_place Seen x)) step.object (at Finalizing)))
+      (Collecting (record c { phase = AfterFinalizing step.object })) refl refl
+      (seen_ages (λ x. marked (with_place Seen x)) step.object step.condemned (λ x m f. record {
         later = record { serial = refl; code = refl; class = refl; referent = inl refl };
         refers = λ n i. inl i;
         place = λ g. inl f;
-      })) refl (λ weak m. absurd m) (to_run_is script v.objects o p e) (λ s. absurd (let no : Del ≡ Callback = s
-      in cc))
-
-  finalizing_acts : (events : List Event) (after : World) → FinalizingStep script c below (at Finalizing) events after → Acts script (at Finalizing) below events after
-  finalizing_acts events after (inl step) = yields_acts script (at Finalizing) below (looks_at script c step.object below (at Finalizing)
-      (option_and_then (finalizer_to_run script) (object_at v.objects step.object))) events after step.yields (looks_at_acts step.object step.condemned
-      (option_and_then (finalizer_to_run script) (object_at v.objects step.object)) refl)
-  finalizing_acts events after (inr step) = yields_acts script (at Finalizing) below ([], collection_at c Split below (replaced_place Seen Cand (at Finalizing))) events after step.1
+      })) refl (λ weak m. absurd m) (to_run_is script v.objects step.object p e) (λ s. absurd (let no : Del ≡ Callback = s
+      in cc))))
+  phase_acts Finalizing events after (inr step) = yields_acts step.1
       (goes Finalizing (record c { phase = Split }) [] _ refl refl refl (grows_if (at Finalizing) (with_place Cand) (is_at Seen) v.objects
-      (λ x m t. record {
-        later = record { serial = refl; code = refl; class = refl; referent = inl refl };
-        refers = λ n i. inl i;
-        place = λ g. inl (found_at_place x.place Seen tt t);
-      })) (λ weak m. absurd m) (λ n m. m))
-
-  -- the second reachability pass
-  all_lose_grows : (w : World) (wanted : Object → Bool) (weaks : List ℕ) (objects after : List Object) → AllLose wanted objects weaks after → Grows w objects after
-  all_lose_grows w = came_all_lose (Ages w) (ages w) (λ x. record { later = record { serial = refl; code = refl; class = refl; referent = inr refl }; refers = λ n i. inl i; place = λ f. inl f })
-
-  split_acts : (events : List Event) (after : World) → SplitStep c below (at Split) events after → Acts script (at Split) below events after
-  split_acts events after step = to (at Split) after _ events step.world
+      (λ x m t. placed_ages (at Finalizing) Cand x (λ g. inl (found_at_place x.place Seen tt t)))) (λ weak m. absurd m) (λ n m. m))
+  phase_acts (AfterFinalizing o) events after step = yields_acts step (gives (AfterFinalizing o) (o ∷ []) (record c { phase = Finalizing }) _ refl refl refl (same (AfterFinalizing o)) (λ weak m. absurd m))
+  phase_acts Split events after step = to step.world
       (goes Split (record c { collected = c.collected + length (serials_at step.objects Cand); phase = Turns }) events _ refl refl refl
       (grows_trans (at Split) v.objects (get_older c.generation step.alive v.objects) step.objects
-      (grows_if (at Split) (with_place (Gen (older c.generation))) (λ x. includes step.alive x.serial) v.objects
-      (λ x m t. record { later = record { serial = refl; code = refl; class = refl; referent = inl refl }; refers = λ n i. inl i; place = λ f. absurd f }))
+      (grows_at (at Split) (Gen (older c.generation)) (λ x. includes step.alive x.serial) v.objects (λ f. f))
       (all_lose_grows (at Split) _ step.cleared (get_older c.generation step.alive v.objects) step.objects step.lose))
       (λ weak m. absurd m) (λ n m. none_appended (map Alive step.alive) (map Cleared step.cleared) n (none_mapped Alive step.alive n (λ x e. cc))
       (none_mapped Cleared step.cleared n (λ x e. cc)) (subst (λ (es : List Event). Includes es (Enter Callback n)) step.lines m)))
-
-  -- a saved object was partitioned
-  saved_grows : (w : World) (o : ℕ) (objects : List Object) → IsAside w o → Grows w objects (saved o objects)
-  saved_grows w o objects aside = grows_if w (λ x. with_entries (x.entries ++ item (Ref o) ∷ []) x) (λ x. x.serial == 1) objects (λ x m t. record {
-    later = record { serial = refl; code = refl; class = refl; referent = inl refl };
-    refers = λ n i. either (references-append x.entries (item (Ref o) ∷ []) n i) (λ k. inl k) (λ k. either k (λ e. inr (subst (IsAside w) e aside)) (λ no. absurd no));
-    place = λ f. inl f;
-  })
-
-  all_saved_grows : (w : World) (keeps : List ℕ) (objects : List Object) → ((o : ℕ) → Includes keeps o → IsAside w o) → Grows w objects (all_saved keeps objects)
-  all_saved_grows w keeps objects aside = all_saved_by (Grows w) (came (Ages w) (ages w)) keeps (λ o m now. saved_grows w o now (aside o m)) objects
-
-  turn_acts : (x : Object) → Includes (objects_at v.objects Cand) x → (let t : Transition = takes_turn c x below (at Turns) in Acts script (at Turns) below t.0 t.1)
-  turn_acts x member = go (has_flag c.flags save_all) (is_tuple x)
-    where
-      aside : IsAside (at Turns) x.serial
-      aside = let k = Includes-filter_cases (is_at Cand) v.objects x member in (x, k.0, refl, found_at_place x.place Cand tt k.1)
-
-      go : (s t : Bool) → (let next : Transition = if s
-          then (
-            GcSaved x.serial ∷ [],
-            collection_at c Turns below (with_objects (change (with_place (Gen (older c.generation))) x.serial
-                (saved x.serial v.objects)) (at Turns)),
-          )
-          else if t then ([], collection_at c Turns below (with_change (with_place (Gen (older c.generation))) x.serial (at Turns)))
-          else ([], collection_at c (Turn x.serial) below (at Turns)) in Acts script (at Turns) below next.0 next.1)
-      go true t = goes Turns (record c { phase = Turns }) (GcSaved x.serial ∷ []) _ refl refl refl
-          (grows_trans (at Turns) v.objects (saved x.serial v.objects) (change (with_place (Gen (older c.generation))) x.serial (saved x.serial v.objects))
-          (saved_grows (at Turns) x.serial v.objects aside) (grows_place (at Turns) (Gen (older c.generation)) x.serial (saved x.serial v.objects)
-          (λ f. f)))
-          (λ weak m. absurd m) (λ n m. either m (λ e. cc) (λ no. no))
-      go false true = goes Turns (record c { phase = Turns }) [] _ refl refl refl (grows_place (at Turns) (Gen (older c.generation)) x.serial v.objects (λ f. f)) (λ weak m. absurd m) (λ n m. m)
-      go false false = goes Turns (record c { phase = Turn x.serial }) [] _ refl refl refl (same Turns) (λ weak m. absurd m) (λ n m. m)
-
-  turns_acts : (events : List Event) (after : World) → TurnsStep c below (at Turns) events after → Acts script (at Turns) below events after
-  turns_acts events after (inl step) = yields_acts script (at Turns) below (takes_turn c step.object below (at Turns)) events after step.yields (turn_acts step.object step.member)
-  turns_acts events after (inr step) = yields_acts script (at Turns) below ([], at Ending) events after step.1 (goes Turns (record c { phase = Ending }) [] _
+  phase_acts Turns events after (inl step) = yields_acts step.yields (turn_acts step.object step.member)
+  phase_acts Turns events after (inr step) = yields_acts step.1 (goes Turns (record c { phase = Ending }) [] _
       refl refl refl (same Turns) (λ weak m. absurd m) (λ n m. m))
-
-  empties_acts : (o : ℕ) (m : Option Entry) → (let t : Transition = empties c o below (at (Turn o)) m in Acts script (at (Turn o)) below t.0 t.1)
-  empties_acts o None = gives (Turn o) (o ∷ []) (record c { phase = AfterTurn o }) _ refl refl refl (same (Turn o)) (λ weak m. absurd m)
-  empties_acts o (Some entry) = gives (Turn o) (entry_references entry) (record c { phase = Turn o }) _ refl refl refl
-      (shortened_grows (at (Turn o)) 1 v.next_serial v.objects o rises) (λ weak m. absurd m)
-
-  end_acts : (events : List Event) (after : World) → EndStep script c below (at Ending) events after → Acts script (at Ending) below events after
-  end_acts events after step = to (at Ending) after _ events step.world (acts script (at Ending) below events _ refl refl grows [] refl (λ a m. absurd m) none)
+  phase_acts (Turn o) events after step = yields_acts step (option_either (Acts script (at (Turn o)) below) (empties c o below (at (Turn o))) (last_entry (entries_of v.objects o))
+      (λ e. gives (Turn o) (o ∷ []) (record c { phase = AfterTurn o }) _ refl refl refl (same (Turn o)) (λ weak m. absurd m))
+      (λ entry e. gives (Turn o) (entry_references entry) (record c { phase = Turn o }) _ refl refl refl
+      (shortened_grows (at (Turn o)) 1 v.next_serial v.objects o rises) (λ weak m. absurd m)))
+  phase_acts (AfterTurn o) events after step = yields_acts step
+      (goes (AfterTurn o) (record c { phase = Turns }) [] _ refl refl refl (grows_place (at (AfterTurn o)) (Gen (older c.generation)) o v.objects (λ f. f))
+      (λ weak m. absurd m) (λ n m. m))
+  phase_acts Ending events after step = to step.world (acts script (at Ending) below events _ refl refl grows [] refl (λ a m. absurd m) none)
     where
       aside : (o : ℕ) → Includes step.keeps o → IsAside (at Ending) o
       aside o m =
@@ -335,12 +287,7 @@ module _ (script : Script) (c : Collection) (below : List Activity) (v : World) 
 
       grows : Grows (at Ending) v.objects (map (λ x. if is_at Legacy x then with_place (Gen (older c.generation)) x else x) kept)
       grows = grows_trans (at Ending) v.objects kept _ (all_saved_grows (at Ending) step.keeps v.objects aside)
-          (grows_if (at Ending) (with_place (Gen (older c.generation))) (is_at Legacy) kept
-          (λ x m t. record {
-            later = record { serial = refl; code = refl; class = refl; referent = inl refl };
-            refers = λ n i. inl i;
-            place = λ f. absurd f;
-          }))
+          (grows_at (at Ending) (Gen (older c.generation)) (is_at Legacy) kept (λ f. f))
 
       none : (n : ℕ) → ¬ Includes events (Enter Callback n)
       none n m = none_appended (lines_if (has_flag c.flags uncollectable) (map GcUncollectable step.told) ++ map GcSaved step.keeps)
@@ -350,26 +297,3 @@ module _ (script : Script) (c : Collection) (below : List Activity) (v : World) 
           (none_mapped GcSaved step.keeps n (λ x e. cc)))
           (λ i. either i (λ e. cc) (none_if c.asked (Collected (c.collected + length step.told) ∷ []) n (λ k. either k (λ e. cc) (λ no. no))))
           (subst (λ (es : List Event). Includes es (Enter Callback n)) step.lines m)
-
-  pub phase_acts : (phase : CollectPhase) (events : List Event) (after : World) → PhaseStep script c phase below (at phase) events after → Acts script (at phase) below events after
-  phase_acts Start events after step = start_acts events after step
-  phase_acts (WeakClearing waiting) events after step = weak_clearing_acts waiting events after step
-  phase_acts (WeakCalling waiting) events after step = yields_acts script (at (WeakCalling waiting)) below (calls_back script c waiting below
-      (at (WeakCalling waiting))) events after step (weak_calling_acts waiting)
-  phase_acts (AfterCallback weak waiting) events after step = yields_acts script (at (AfterCallback weak waiting)) below
-      ([], push (Releasing (weak ∷ [])) (at (AfterRelease weak waiting))) events after step (gives (AfterCallback weak waiting) (weak ∷ [])
-      (record c { phase = AfterRelease weak waiting }) _ refl refl refl (same (AfterCallback weak waiting)) (waits_still (AfterCallback weak waiting)))
-  phase_acts (AfterRelease weak waiting) events after step = yields_acts script (at (AfterRelease weak waiting)) below (after_release c weak waiting below
-      (at (AfterRelease weak waiting))) events after step (after_release_acts weak waiting)
-  phase_acts Finalizing events after step = finalizing_acts events after step
-  phase_acts (AfterFinalizing o) events after step = yields_acts script (at (AfterFinalizing o)) below ([], push (Releasing (o ∷ [])) (at Finalizing)) events
-      after step (gives (AfterFinalizing o) (o ∷ []) (record c { phase = Finalizing }) _ refl refl refl (same (AfterFinalizing o)) (λ weak m. absurd m))
-  phase_acts Split events after step = split_acts events after step
-  phase_acts Turns events after step = turns_acts events after step
-  phase_acts (Turn o) events after step = yields_acts script (at (Turn o)) below (empties c o below (at (Turn o)) (last_entry (entries_of v.objects o))) events
-      after step (empties_acts o (last_entry (entries_of v.objects o)))
-  phase_acts (AfterTurn o) events after step = yields_acts script (at (AfterTurn o)) below
-      ([], collection_at c Turns below (with_change (with_place (Gen (older c.generation))) o (at (AfterTurn o)))) events after step
-      (goes (AfterTurn o) (record c { phase = Turns }) [] _ refl refl refl (grows_place (at (AfterTurn o)) (Gen (older c.generation)) o v.objects (λ f. f))
-      (λ weak m. absurd m) (λ n m. m))
-  phase_acts Ending events after step = end_acts events after step

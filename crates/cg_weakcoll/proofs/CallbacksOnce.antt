@@ -1,19 +1,19 @@
 -- Weak references whose callbacks are still to run are cleared. Each callback begins once.
-use Rattle.std.proofs.Common.{◌≡◌, refl, sym, ◌∙◌, ap, subst, ℕ, ◌<◌, ◌≤◌, true, false, cond, inl, inr, ◌⊎◌, List, [], ◌∷◌, ◌++◌, Some, None, arith}
+use Rattle.std.proofs.Common.{◌≡◌, refl, sym, ◌∙◌, ap, subst, ℕ, ◌<◌, ◌≤◌, cond, inl, inr, ◌⊎◌, List, [], ◌∷◌, ◌++◌, Some, None, arith}
 use Rattle.std.specs.Prelude.{◌==◌}
 use Rattle.std.proofs.lemmas.Bool.{eq-eqb}
 use Rattle.cg_script.specs.declared.Script.{Script}
-use Rattle.cg_graph.specs.Member.{Includes, includes}
+use Rattle.cg_graph.specs.Member.{Includes}
 use Rattle.cg_graph.specs.Holdings.{occurrences}
 use Rattle.cg_graph.specs.Object.{Object}
-use Rattle.cg_graph.proofs.Members.{cases_of, either, includes-of, Includes-of, Includes-append_cases, Includes-append_left, Includes-append_right}
+use Rattle.cg_graph.proofs.Members.{either, Includes-append_cases, Includes-append_left, Includes-append_right}
 use Rattle.cg_graph.proofs.Objects.{occurrences-append}
 use Rattle.cg_machine.specs.declared.event.Event.{Event}
 use Rattle.cg_machine.specs.declared.event.Event.TheVariants.{Enter}
 use Rattle.cg_machine.specs.declared.event.FrameSort.TheVariants.{Callback}
-use Rattle.cg_machine.specs.World.{World, Activity, TopLevel, Framed, Releasing, Dying, Collecting, ShuttingDown, CollectPhase, WeakClearing, WeakCalling, AfterCallback, AfterRelease}
+use Rattle.cg_machine.specs.World.{World, Activity, Dying, Collecting, CollectPhase, AfterCallback}
 use Rattle.cg_represents.specs.Orderly.{IsWaiting, all_waits, collection_waits, waits_of}
-use Rattle.cg_represents.proofs.Lists.{present, no_times, occurrences-cons}
+use Rattle.cg_represents.proofs.Lists.{present, occurrences-cons, Includes-of_count}
 use Rattle.cg_laws.proofs.Unreferred.{IsLater, none_later}
 use Rattle.cg_weakcoll.proofs.ActivitySteps.{Acts, Called, IsAside, IsCollected, IsRaised, Waited, all_to_call, to_call, to_call_in}
 use Rattle.cg_laws.specs.Apart.{IsFound}
@@ -31,19 +31,12 @@ to_call_in_stack (b ∷ stack) a n (inr m) i = Includes-append_right (to_call b)
 
 -- the former are among those that wait, at most as often
 one_waits : (n : ℕ) (a : Activity) → occurrences n (to_call a) ≤ occurrences n (waits_of a)
-one_waits n (TopLevel commands) = omega arith
-one_waits n (Framed f) = omega arith
-one_waits n (Releasing references) = omega arith
-one_waits n (Dying d) = omega arith
 one_waits n (Collecting c) = by_phase c.phase
   where
     by_phase : (phase : CollectPhase) → occurrences n (to_call_in phase) ≤ occurrences n (collection_waits phase)
-    by_phase (WeakClearing waiting) = omega arith
-    by_phase (WeakCalling waiting) = omega arith
     by_phase (AfterCallback weak waiting) = let c = occurrences-cons n weak waiting in omega (arith, c)
-    by_phase (AfterRelease weak waiting) = omega arith
     by_phase phase = omega arith
-one_waits n (ShuttingDown started) = omega arith
+one_waits n a = omega arith
 
 all_wait : (n : ℕ) (stack : List Activity) → occurrences n (all_to_call stack) ≤ occurrences n (all_waits stack)
 all_wait n [] = omega arith
@@ -56,16 +49,9 @@ all_wait n (a ∷ stack) =
 waits_among : (n : ℕ) (stack : List Activity) → Includes (all_to_call stack) n → 0 < occurrences n (all_waits stack)
 waits_among n stack m = let more = present n (all_to_call stack) m in let less = all_wait n stack in omega (arith, more, less)
 
-pub waits_among_members : (n : ℕ) (xs : List ℕ) → 0 < occurrences n xs → Includes xs n
-waits_among_members n xs more = go (cases_of (includes xs n))
-  where
-    go : (includes xs n ≡ true) ⊎ (includes xs n ≡ false) → Includes xs n
-    go (inl t) = Includes-of xs n t
-    go (inr f) = let none = no_times n xs (λ m. let no : true ≡ false = sym (includes-of xs n m) ∙ f in cc) in absurd (omega (arith, none, more))
-
 -- a weak reference whose callback is still to run is cleared
 pub lost_referent : (script : Script) (budget : ℕ) (w : World) (n : ℕ) → Known script budget w → Includes (all_to_call w.stack) n → (x : Object) → Includes w.objects x → x.serial ≡ n → IsWaiting x
-lost_referent script budget w n k m x i s = k.lawful.orderly.waiting n (waits_among_members n (all_waits w.stack) (waits_among n w.stack m)) x i s
+lost_referent script budget w n k m x i s = k.lawful.orderly.waiting n (Includes-of_count n (all_waits w.stack) (waits_among n w.stack m)) x i s
 
 -- a weak reference whose callback will never run
 pub record Spent (s : ℕ) (w : World) : Type 0 where
@@ -99,12 +85,9 @@ acted_tells script budget s w a below events after k top acts = record {
 }
   where
     raised : (b : Activity) → IsRaised script w b → Includes (to_call b) s → Waited w s
-    raised (TopLevel commands) r i = absurd i
-    raised (Framed f) r i = absurd i
-    raised (Releasing references) r i = absurd i
     raised (Dying d) r i = r s i
     raised (Collecting c) r i = r s i
-    raised (ShuttingDown started) r i = absurd i
+    raised a r i = absurd i
 
     gone : Called w below acts.tops events s → ((b : Activity) × Includes (acts.tops ++ below) b × Includes (to_call b) s) → ⊥
     gone c b =

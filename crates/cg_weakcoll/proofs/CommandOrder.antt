@@ -1,23 +1,20 @@
 -- The script's own commands are done in order.
-use Rattle.std.proofs.Common.{◌≡◌, refl, sym, ◌∙◌, ap, subst, ℕ, ◌-◌, Bool, true, false, inl, inr, List, [], ◌∷◌, ◌++◌, Option, Some, None}
-use Rattle.std.specs.Prelude.{◌==◌, if◌then◌else◌}
+use Rattle.std.proofs.Common.{◌≡◌, refl, sym, ◌∙◌, ap, subst, ℕ, ◌-◌, true, false, inl, inr, List, [], ◌∷◌, ◌++◌, Option, Some, None}
 use Rattle.std.proofs.lemmas.List.{append_assoc}
 use Rattle.cg_script.specs.declared.Script.{Script}
 use Rattle.cg_script.specs.declared.Command.{Command}
 use Rattle.cg_graph.specs.Member.{Includes}
 use Rattle.cg_graph.proofs.Members.{either, Includes-append_cases}
 use Rattle.cg_machine.specs.declared.event.Event.{Event}
-use Rattle.cg_machine.specs.declared.event.Event.TheVariants.{BudgetSpent, Enter}
-use Rattle.cg_machine.specs.declared.event.FrameSort.TheVariants.{Call as CallFrame}
-use Rattle.cg_machine.specs.Program.{body_of, commands_of}
-use Rattle.cg_machine.specs.World.{World, Activity, TopLevel, Framed, Releasing, Dying, Collecting, ShuttingDown, BudgetIsSpent, opening, push}
-use Rattle.cg_machine.specs.Frame.{Yields, procedure_of, start_frame}
+use Rattle.cg_machine.specs.Program.{commands_of}
+use Rattle.cg_machine.specs.World.{World, Activity, TopLevel, Framed, Releasing, ShuttingDown, opening, push}
 use Rattle.cg_machine.specs.Commands.{new_collection}
 use Rattle.cg_machine.specs.Due.{due}
 use Rattle.cg_machine.specs.Run.{Run, Step, StepOf, StepTaken, TopLevelStep, last_world, world_after}
 use Rattle.cg_laws.proofs.Invariants.{AreLast, FromFrame, FromTop, Takes, emptied, on}
 use Rattle.cg_represents.proofs.Serials.{Rises}
 use Rattle.cg_laws.proofs.ShapeLaws.{changes_leave}
+use Rattle.cg_laws.proofs.Starting.{begun_frame, call_frame, called_either}
 use Rattle.cg_weakcoll.specs.Exits.{ExitsAreCalledLastFirst, own_command, own_commands}
 use Rattle.cg_weakcoll.proofs.ActivitySteps.{IsRaised}
 use Rattle.cg_weakcoll.proofs.KnownOfRuns.{Acted, Asked, Began, Bottomed, Changed, Commanded, Done, Due, GaveUp, Lasted, Over, Stood, Stopped, Went, known_after, went}
@@ -25,11 +22,8 @@ use Rattle.cg_weakcoll.proofs.KnownOfRuns.{Acted, Asked, Began, Bottomed, Change
 -- an activity other than the script's own
 abbrev IsAbove : Activity → Type 0
 IsAbove (TopLevel commands) = ⊥
-IsAbove (Framed f) = Unit {0}
-IsAbove (Releasing references) = Unit {0}
-IsAbove (Dying d) = Unit {0}
-IsAbove (Collecting c) = Unit {0}
 IsAbove (ShuttingDown started) = ⊥
+IsAbove a = Unit {0}
 
 abbrev AllAbove : List Activity → Type 0
 AllAbove stack = (a : Activity) → Includes stack a → IsAbove a
@@ -45,14 +39,8 @@ data InOrder (all done : List Command) (stack : List Activity) : Type 0 where
 
 raised_above : (script : Script) (w : World) (a : Activity) → IsRaised script w a → IsAbove a
 raised_above script w (TopLevel commands) r = r
-raised_above script w (Framed f) r = tt
-raised_above script w (Releasing references) r = tt
-raised_above script w (Dying d) r = tt
-raised_above script w (Collecting c) r = tt
 raised_above script w (ShuttingDown started) r = r
-
-above_none : (tops : List Activity) → AllAbove tops → NoneLeft tops
-above_none tops h commands m = absurd (h (TopLevel commands) m)
+raised_above script w a r = tt
 
 joined_none : (tops below : List Activity) → AllAbove tops → NoneLeft below → NoneLeft (tops ++ below)
 joined_none tops below h k commands m = either (Includes-append_cases tops below (TopLevel commands) m) (λ i. absurd (h (TopLevel commands) i)) (k commands)
@@ -83,37 +71,15 @@ data Leaves (b : Activity) (below stack : List Activity) : Type 0 where
   GoesOn : (tops : List Activity) → stack ≡ tops ++ b ∷ below → AllAbove tops → Leaves b below stack
   Stops : stack ≡ emptied b ∷ below → Leaves b below stack
 
-call_leaves : (script : Script) (f p : ℕ) (u : World) (events : List Event) (after : World)
-    → Yields (start_frame script (record { sort = CallFrame; proc = p; subject = f; func = Some f }) u) events after → (b : Activity) (below : List Activity)
-    → u.stack ≡ b ∷ below → Leaves b below after.stack
-call_leaves script f p u events after step b below top = go (u.budget == 0) step
-  where
-    frame : Activity
-    frame = Framed (record { sort = CallFrame; subject = f; function = Some f; commands = body_of script p })
-
-    go : (c : Bool) → Yields (if c then (BudgetSpent ∷ [], record u { outcome = BudgetIsSpent })
-        else (
-          Enter CallFrame f ∷ [],
-          record u {
-            budget = u.budget - 1;
-            stack = Framed (record {
-              sort = CallFrame;
-              subject = f;
-              function = Some f;
-              commands = body_of script p;
-            }) ∷ u.stack;
-          },
-        )) events after → Leaves b below after.stack
-    go true y = GoesOn [] (ap (λ (z : World). z.stack) y.1 ∙ top) (λ a m. absurd m)
-    go false y = GoesOn (frame ∷ []) (ap (λ (z : World). z.stack) y.1 ∙ ap (λ st. frame ∷ st) top) (one_above frame tt)
-
 done_leaves : (script : Script) (command : Command) (b : Activity) (below : List Activity) (v : World) (events : List Event) (after : World)
     → Done script command (on b below v) b below events after → Leaves b below after.stack
 done_leaves script command b below v events after (Stood answers is) = GoesOn [] (ap (λ (z : World). z.stack) is) (λ c m. absurd m)
 done_leaves script command b below v events after (Stopped answers is) = Stops (ap (λ (z : World). z.stack) is)
 done_leaves script command b below v events after (Changed wants given next is shape) = GoesOn (Releasing given ∷ []) (ap (λ (z : World). z.stack) is
     ∙ ap (λ st. Releasing given ∷ st) (changes_leave (on b below v) command wants events given next shape).stack) (one_above (Releasing given) tt)
-done_leaves script command b below v events after (Began f has step) = call_leaves script f.serial (procedure_of (on b below v) f.serial) (on b below v) events after step b below refl
+done_leaves script command b below v events after (Began f has step) =
+    let frame = begun_frame script (call_frame (on b below v) f.serial) in
+    called_either (λ lines w. Leaves b below w.stack) script (on b below v) f.serial events after step (GoesOn [] refl (λ a m. absurd m)) (GoesOn (frame ∷ []) refl (one_above frame tt))
 done_leaves script command b below v events after (Asked g none is) = GoesOn (new_collection g true (on b below v) ∷ []) (ap (λ (z : World). z.stack) is)
     (one_above (new_collection g true (on b below v)) tt)
 
@@ -151,26 +117,13 @@ nil_right (x ∷ xs) = ap (λ ys. x ∷ ys) (nil_right xs)
 -- which command is done
 above_own : (d : Option ℕ) (a : Activity) (below : List Activity) → IsAbove a → own_command d (a ∷ below) ≡ []
 above_own d (TopLevel commands) below h = absurd h
-above_own None (Framed f) below h = refl
-above_own (Some g) (Framed f) below h = refl
-above_own None (Releasing references) below h = refl
-above_own (Some g) (Releasing references) below h = refl
-above_own None (Dying x) below h = refl
-above_own (Some g) (Dying x) below h = refl
-above_own None (Collecting c) below h = refl
-above_own (Some g) (Collecting c) below h = refl
 above_own d (ShuttingDown started) below h = absurd h
+above_own None a below h = refl
+above_own (Some g) a below h = refl
 
 none_own : (d : Option ℕ) (stack : List Activity) → NoneLeft stack → own_command d stack ≡ []
-none_own None [] h = refl
-none_own (Some g) stack h = refl
-none_own None (TopLevel [] ∷ below) h = refl
 none_own None (TopLevel (c ∷ commands) ∷ below) h = absurd (let no : c ∷ commands ≡ [] = h (c ∷ commands) (inl refl) in cc)
-none_own None (Framed f ∷ below) h = refl
-none_own None (Releasing references ∷ below) h = refl
-none_own None (Dying x ∷ below) h = refl
-none_own None (Collecting c ∷ below) h = refl
-none_own None (ShuttingDown started ∷ below) h = refl
+none_own m stack h = refl
 
 module _ (script : Script) (w : World) (events : List Event) (after : World) (step : Step script w events after) (x : Went script w events after) (all done : List Command) where
   same_done : (own : List Command) → own ≡ [] → (stack : List Activity) → InOrder all done stack → InOrder all (done ++ own) stack

@@ -13,7 +13,7 @@ use Rattle.cg_laws.specs.Origins.{commands_on}
 use Rattle.cg_machine.specs.Commands.{new_collection}
 use Rattle.cg_laws.specs.Laws.{is_enter}
 use Rattle.cg_machine.specs.Run.{Step}
-use Rattle.cg_laws.proofs.Advances.{Advance, Plainly, WithFrame, Continues, DeathGoesOn, DeathClears, CollectionGoesOn, Tops, TopEnds, GivesFunction, GivesReference, BeginsDeath, TopGoesOn, GivesReferences}
+use Rattle.cg_laws.proofs.Advances.{Advance, Plainly, WithFrame, Continues, DeathGoesOn, Tops, TopEnds, GivesFunction, TopGoesOn, GivesReferences}
 use Rattle.cg_laws.proofs.Advancing.{frame_end_advances, released_advances, dying_advances, phase_advances}
 use Rattle.cg_laws.proofs.Sums.{tally}
 use Rattle.cg_laws.proofs.ShapeLaws.{changes_leave}
@@ -24,10 +24,8 @@ use Rattle.cg_promises.proofs.KeptRuns.{starts_none}
 abbrev pub weight : Activity → ℕ
 weight (TopLevel commands) = suc (length commands)
 weight (Framed f) = suc (length f.commands)
-weight (Releasing references) = 0
-weight (Dying d) = 0
-weight (Collecting c) = 0
 weight (ShuttingDown started) = 1
+weight a = 0
 
 -- A step of the top activity, which others replace.
 pub record Burnt (top : Activity) (tops : List Activity) (names now : List (Option Val)) : Type 0 where
@@ -87,8 +85,7 @@ closes a below tops w after none some was now light = record {
 -- what goes on in another activity's step
 continues_idle : (before after : List Object) (top a : Activity) → Continues before after top a → (weight top ≡ 0) × (commands_on top ≡ []) × (weight a ≡ 0)
 continues_idle before after top a (DeathGoesOn o phase next waits none) = (refl, refl, refl)
-continues_idle before after top a (DeathClears o weak waiting weaks t first lost) = (refl, refl, refl)
-continues_idle before after top a (CollectionGoesOn c d same begun early) = (refl, refl, refl)
+continues_idle before after top a other = (refl, refl, refl)
 
 module _ (script : Script) (below : List Activity) (v : World) where
   stands : (top : Activity) → (commands_on top ≡ []) → (objects : List Object) (numbers : Numbers) (tops : List Activity) → Tops v.objects objects top tops
@@ -99,18 +96,15 @@ module _ (script : Script) (below : List Activity) (v : World) where
       w = record v { objects = objects; numbers = numbers; stack = below }
 
       ends : (a : Activity) → commands_on a ≡ [] → Burns (on a below v) w
-      ends (TopLevel commands) e = closes (TopLevel commands) below [] (on (TopLevel commands) below v) w e (omega arith) refl refl (omega arith)
-      ends (Framed f) e = closes (Framed f) below [] (on (Framed f) below v) w e (omega arith) refl refl (omega arith)
       ends (Releasing references) e = idle (Releasing references) below [] (on (Releasing references) below v) w refl refl refl refl refl refl
       ends (Dying d) e = idle (Dying d) below [] (on (Dying d) below v) w refl refl refl refl refl refl
       ends (Collecting c) e = idle (Collecting c) below [] (on (Collecting c) below v) w refl refl refl refl refl refl
-      ends (ShuttingDown started) e = closes (ShuttingDown started) below [] (on (ShuttingDown started) below v) w e (omega arith) refl refl (omega arith)
+      ends a e = closes a below [] (on a below v) w e (omega arith) refl refl (omega arith)
   stands top none objects numbers tops (GivesFunction f references few) = closes top below tops (on top below v) _ none (omega arith) refl refl (omega arith)
-  stands top none objects numbers tops (GivesReference o references) = idle top below tops (on top below v) _ refl refl refl refl refl refl
-  stands top none objects numbers tops (BeginsDeath o references) = idle top below tops (on top below v) _ refl refl refl refl refl refl
   stands top none objects numbers tops (TopGoesOn b a c held) = let k = continues_idle v.objects objects b a c in idle b below (a ∷ []) (on b below v) _ k.0 k.1 refl refl (omega (arith, k.2)) refl
   stands top none objects numbers tops (GivesReferences b a references few c held) = let k = continues_idle v.objects objects b a c
       in idle b below (Releasing references ∷ a ∷ []) (on b below v) _ k.0 k.1 refl refl (omega (arith, k.2)) refl
+  stands top none objects numbers tops other = idle top below tops (on top below v) _ refl refl refl refl refl refl
 
   advance_burns : (top : Activity) → (commands_on top ≡ []) → (lines : List Event) (after : World) → Advance script v top below lines after → BurnsSo (on top below v) lines after
   advance_burns top none lines after (Plainly tops objects numbers ls t c n shown) quiet running = stands top none objects numbers tops t

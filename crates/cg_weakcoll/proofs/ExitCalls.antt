@@ -1,11 +1,12 @@
 -- If the procedure of an exit finalizer finds its object alive, the function is called.
-use Rattle.std.proofs.Common.{◌≡◌, ◌≢◌, refl, sym, ◌∙◌, ap, subst, ℕ, zero, suc, ◌+◌, ◌-◌, ◌<◌, Bool, true, false, cond, inl, inr, ◌⊎◌, List, [], ◌∷◌, ◌++◌, length, Option, Some, None, arith}
-use Rattle.std.specs.Prelude.{◌==◌, count_by, flat_map, if◌then◌else◌, option_and_then, slice_get, slice_set}
+use Rattle.std.proofs.Common.{◌≡◌, ◌≢◌, refl, sym, ◌∙◌, ap, subst, ℕ, zero, suc, ◌+◌, ◌-◌, ◌<◌, true, false, cond, inl, inr, ◌⊎◌, List, [], ◌∷◌, ◌++◌, length, Option, Some, None, arith}
+use Rattle.std.specs.Prelude.{count_by, flat_map, if◌then◌else◌, option_and_then, slice_get, slice_set}
 use Rattle.std.proofs.lemmas.Bool.{eq-eqb}
 use Rattle.std.proofs.lemmas.List.Sums.{sum_by-cons}
 use Rattle.std.proofs.lemmas.List.{append_assoc}
+use Rattle.std.proofs.lemmas.Option.{same_Some}
 use Rattle.cg_value.specs.declared.Val.{Val}
-use Rattle.cg_value.specs.declared.Val.TheVariants.{None as Nothing, Int, Str, Ref}
+use Rattle.cg_value.specs.declared.Val.TheVariants.{Ref}
 use Rattle.cg_script.specs.declared.Script.{Script}
 use Rattle.cg_script.specs.declared.Command.{Command}
 use Rattle.cg_script.specs.declared.Command.TheVariants.{Call, Del, Deref, Quit}
@@ -17,9 +18,8 @@ use Rattle.cg_graph.proofs.Members.{either, Includes-append_cases, Includes-appe
 use Rattle.cg_machine.specs.declared.event.Event.{Event}
 use Rattle.cg_machine.specs.declared.event.Event.TheVariants.{BudgetSpent, Enter, Refused}
 use Rattle.cg_machine.specs.declared.event.FrameSort.TheVariants.{Call as CallFrame}
-use Rattle.cg_machine.specs.Program.{body_of}
-use Rattle.cg_machine.specs.World.{World, Activity, Framed, Releasing, Frame, BudgetIsSpent, opening, with_stack}
-use Rattle.cg_machine.specs.Frame.{Yields, procedure_of, start_frame}
+use Rattle.cg_machine.specs.World.{World, Activity, Framed, Releasing, Frame, opening, with_stack}
+use Rattle.cg_machine.specs.Frame.{Yields, start_frame}
 use Rattle.cg_machine.specs.Effects.{given_up_by}
 use Rattle.cg_machine.specs.Commands.{CommandStep, new_collection}
 use Rattle.cg_laws.specs.Laws.{is_enter}
@@ -31,6 +31,7 @@ use Rattle.cg_laws.proofs.Invariants.{FromFrame, on}
 use Rattle.cg_represents.proofs.Lists.{found_at}
 use Rattle.cg_laws.proofs.Lookups.{same_object}
 use Rattle.cg_laws.proofs.PrintableTexts.{commands_name_texts}
+use Rattle.cg_laws.proofs.Starting.{call_frame, called_either}
 use Rattle.cg_promises.proofs.FinalizerOnceRuns.{run_back, run_front}
 use Rattle.cg_weakcoll.specs.Exits.{Exit, ExitsBeginAlive, FindsAlive, IsExit, IsUnderway, NoneRefused, calls_from, exit_body, first_of, is_call, is_refusal, next_command}
 use Rattle.cg_weakcoll.proofs.ExitRuns.{AllKnown, Early, early_opening, early_run, early_step, next_known, rests_names, sum_moved}
@@ -98,26 +99,10 @@ module _ (script : Script) (budget : ℕ) (e : Exit) (ex : IsExit script e) (bel
           (either has (λ last. inl last) (λ r. inr (r.0, ap (λ (z : World). slice_get z.names e.object) d.2 ∙ r.1))))
           next
 
-      begins : (u : World) (f p : ℕ) → Yields (start_frame script (record { sort = CallFrame; proc = p; subject = f; func = Some f }) u) events after
-          → is_call e.function (next_command w.stack) ≡ true → 0 < calls + counts w events
-      begins u f p y called = go (u.budget == 0) y
-        where
-          go : (b : Bool) → Yields (if b then (BudgetSpent ∷ [], record u { outcome = BudgetIsSpent })
-              else (
-                Enter CallFrame f ∷ [],
-                record u {
-                  budget = u.budget - 1;
-                  stack = Framed (record {
-                    sort = CallFrame;
-                    subject = f;
-                    function = Some f;
-                    commands = body_of script p;
-                  }) ∷ u.stack;
-                },
-              )) events after → 0 < calls + counts w events
-          go true z = absurd (refusal_counted BudgetSpent refl (sym (ap (count_by is_refusal) z.0) ∙ quiet))
-          go false z =
-              let one : counts w events ≡ 1 = ap (λ t. if t then count_by is_enter events else 0) called ∙ ap (count_by is_enter) z.0 ∙ enter_counted f in omega (arith, one)
+      begins : (u : World) (f : ℕ) → Yields (start_frame script (call_frame u f) u) events after → is_call e.function (next_command w.stack) ≡ true → 0 < calls + counts w events
+      begins u f y called = called_either (λ lines z. count_by is_refusal lines ≡ 0 → 0 < calls + (if is_call e.function (next_command w.stack) then count_by is_enter lines else 0)) script u f events
+          after y (λ none. absurd (refusal_counted BudgetSpent refl none)) (λ none. let one = ap (λ t. if t then count_by is_enter (Enter CallFrame f ∷ []) else 0) called ∙ enter_counted f in
+          omega (arith, one)) quiet
 
       has_ref : (cs : List Command) → HasObject w cs → cs ≢ Call (Name e.function) ∷ [] → (r : ℕ) × (slice_get w.names e.object ≡ Some (Some (Ref r)))
       has_ref cs (inl last) apart = absurd (apart last)
@@ -143,9 +128,7 @@ module _ (script : Script) (budget : ℕ) (e : Exit) (ex : IsExit script e) (bel
                 ap (λ (z : World). slice_get z.names e.object) q.1
                     ∙ at,
               ))
-          quits r Nothing at q = absurd (let no = some_some (Ref r.0) Nothing (sym r.1 ∙ at) in cc)
-          quits r (Int i) at q = absurd (let no = some_some (Ref r.0) (Int i) (sym r.1 ∙ at) in cc)
-          quits r (Str i) at q = absurd (let no = some_some (Ref r.0) (Str i) (sym r.1 ∙ at) in cc)
+          quits r v at q = absurd (let no = some_some (Ref r.0) v (sym r.1 ∙ at) in cc)
       own fs is AtWatch later has tail =
           let r = has_ref frame.commands has (λ same. let no : Del e.watch ∷ Del e.object ∷ Call (Name e.function) ∷ [] ≡ Call (Name e.function) ∷ [] = sym is ∙ same in cc) in
           at_command (Del e.watch) (Del e.object ∷ Call (Name e.function) ∷ []) is tail later has
@@ -162,8 +145,7 @@ module _ (script : Script) (budget : ℕ) (e : Exit) (ex : IsExit script e) (bel
       own fs is AtCall later has tail = at_command (Call (Name e.function)) [] is tail later has
           (λ s. either (call_step script (on (Framed (record frame { commands = [] })) below w) events after (Name e.function) s)
           (λ q. absurd (refuses q.0 q.1.0))
-          (λ c. Begun (begins (on (Framed (record frame { commands = [] })) below w) c.object.serial
-          (procedure_of (on (Framed (record frame { commands = [] })) below w) c.object.serial) c.begins (ap (λ st. is_call e.function (next_command st))
+          (λ c. Begun (begins (on (Framed (record frame { commands = [] })) below w) c.object.serial c.begins (ap (λ st. is_call e.function (next_command st))
           top ∙ ap (λ xs. is_call e.function (first_of xs)) is ∙ eq-eqb e.function e.function refl))))
 
     alive_step : ((frame : Frame) → w.stack ≡ Framed frame ∷ below → count_by is_refusal events ≡ 0) → Alive calls w → Alive (calls + counts w events) after
@@ -182,10 +164,7 @@ module _ (script : Script) (budget : ℕ) (e : Exit) (ex : IsExit script e) (bel
 
   tail_left : (cs : List Command) → IsTail e cs → cs ≢ []
   tail_left cs AtDeref i = cc
-  tail_left cs AtQuit i = cc
-  tail_left cs AtWatch i = cc
-  tail_left cs AtObject i = cc
-  tail_left cs AtCall i = cc
+  tail_left cs other i = cc
 
   pub told : (calls : ℕ) (w : World) → Alive calls w → IsUnderway below w.stack ⊎ (0 < calls)
   told calls w (Underway tops frame is high tail later has) = inl (record { tops = tops; frame = frame; is = is; left = tail_left frame.commands tail })
@@ -211,12 +190,9 @@ module _ (script : Script) (budget : ℕ) (e : Exit) (ex : IsExit script e) (bel
         let known = commands_name_texts script texts (Deref e.object (Name e.watch)) (k.lawful.origins.commands (Deref e.object (Name e.watch)) member) e.object (inl refl) in
         let count = k.minded.count in omega (arith, known, count)
 
-    some_is : (a b : Val) → Some a ≡ Some b → a ≡ b
-    some_is a b i = cc
-
     gets : IsDeref script u events after e.object (Name e.watch) → (r : ℕ) → finds.weak.referent ≡ Some r → slice_get after.names e.object ≡ Some (Some (Ref r))
     gets d r some =
-        let value : d.value ≡ Ref finds.weak.serial = some_is d.value (Ref finds.weak.serial) (sym d.is ∙ ap (λ (m : Option (Option Val)). option_and_then (λ v. v) m) finds.named) in
+        let value : d.value ≡ Ref finds.weak.serial = same_Some d.value (Ref finds.weak.serial) (sym d.is ∙ ap (λ (m : Option (Option Val)). option_and_then (λ v. v) m) finds.named) in
         let there : object_of u (Ref finds.weak.serial) ≡ Some d.object = subst (λ v. object_of u v ≡ Some d.object) value d.found in
         let f = found_at w.objects finds.weak.serial d.object there in
         let same : d.object ≡ finds.weak = same_object 1 w.next_serial w.objects d.object finds.weak k.fit.sound.rises f.0 finds.member f.1 in
@@ -237,9 +213,6 @@ module _ (script : Script) (budget : ℕ) (e : Exit) (ex : IsExit script e) (bel
 pub begins_alive : ExitsBeginAlive
 begins_alive script budget before during texts run e ex frame below finds quiet = go during run quiet
   where
-    w : World
-    w = last_world (opening script budget) before
-
     all_known : AllKnown script budget (opening script budget)
     all_known front r = known_after script budget front texts r
 

@@ -1,6 +1,6 @@
 -- Other commands leave the names of an exit finalizer alone.
-use Rattle.std.proofs.Common.{◌≡◌, ◌≢◌, refl, sym, ◌∙◌, ap, subst, ℕ, zero, suc, ◌-◌, Bool, true, false, inl, List, [], ◌∷◌, Option, Some}
-use Rattle.std.specs.Prelude.{◌==◌, if◌then◌else◌, slice_get, slice_set}
+use Rattle.std.proofs.Common.{◌≡◌, ◌≢◌, refl, sym, ◌∙◌, ap, subst, ℕ, zero, suc, Bool, inl, List, [], ◌∷◌, Option, Some}
+use Rattle.std.specs.Prelude.{slice_get, slice_set}
 use Rattle.cg_value.specs.declared.Val.{Val}
 use Rattle.cg_value.specs.declared.Val.TheVariants.{Ref}
 use Rattle.cg_script.specs.declared.Script.{Script}
@@ -9,22 +9,17 @@ use Rattle.cg_script.specs.declared.Operand.TheVariants.{Name}
 use Rattle.cg_script.specs.Texts.{command_names, operand_names}
 use Rattle.cg_graph.specs.Member.{Includes}
 use Rattle.cg_machine.specs.declared.event.Event.{Event}
-use Rattle.cg_machine.specs.declared.event.Event.TheVariants.{BudgetSpent, Enter}
-use Rattle.cg_machine.specs.declared.event.FrameSort.TheVariants.{Call as CallFrame}
-use Rattle.cg_machine.specs.Program.{body_of}
-use Rattle.cg_machine.specs.World.{World, Activity, Framed, BudgetIsSpent}
-use Rattle.cg_machine.specs.Frame.{Yields, procedure_of, start_frame}
+use Rattle.cg_machine.specs.World.{World, Activity}
 use Rattle.cg_machine.specs.Effects.{Changes, Effect}
 use Rattle.cg_laws.proofs.Invariants.{on}
-use Rattle.cg_represents.proofs.Shapes.{AsksWhy, Binds, Edits, Ends, Freezes, Inspects, IsWordOf, Makes, Puts, Sets, Shape, Shows, StartsCollection, StartsFrame, Stays, Tells, Unfreezes}
+use Rattle.cg_laws.proofs.Starting.{called_either}
+use Rattle.cg_represents.proofs.Shapes.{AsksWhy, Binds, Ends, IsWordOf, Makes, Shape, StartsCollection, StartsFrame}
 use Rattle.cg_weakcoll.proofs.KnownOfRuns.{Asked, Began, Changed, Done, Stood, Stopped}
 
 pub set_away : (names : List (Option Val)) (name x : ℕ) (v : Option Val) → x ≢ name → slice_get (slice_set names name v) x ≡ slice_get names x
-set_away [] name x v apart = refl
 set_away (u ∷ names) zero zero v apart = absurd (apart refl)
-set_away (u ∷ names) zero (suc x) v apart = refl
-set_away (u ∷ names) (suc name) zero v apart = refl
 set_away (u ∷ names) (suc name) (suc x) v apart = set_away names name x v (λ e. apart (ap suc e))
+set_away xs name x v apart = refl
 
 -- a bound name has that value
 pub set_got : (names : List (Option Val)) (x : ℕ) (v u : Option Val) → slice_get (slice_set names x v) x ≡ Some u → u ≡ v
@@ -45,39 +40,11 @@ module _ (u : World) (command : Command) (n : ℕ) (spoken : ¬ Includes (comman
   shape_names e (Binds name v own hand) wants lines given next is = to_next _ lines _ given _ wants _ next (set_away u.names name n v (own_apart name own)) is
   shape_names e (Makes name kind class entries referent own parts) wants lines given next is = to_next _ lines _ given _ wants _ next
       (set_away u.names name n (Some (Ref u.next_serial)) (own_apart name own)) is
-  shape_names e (Edits wants_memory x entries given_up has mutable edit) wants lines given next is = to_next _ lines _ given _ wants _ next refl is
-  shape_names e (Puts x key v has mutable hand_key hand room) wants lines given next is = to_next _ lines _ given _ wants _ next refl is
-  shape_names e (Shows v hand) wants lines given next is = to_next _ lines _ given _ wants _ next refl is
-  shape_names e (Tells line tells) wants lines given next is = to_next _ lines _ given _ wants _ next refl is
-  shape_names e Stays wants lines given next is = to_next _ lines _ given _ wants _ next refl is
-  shape_names e (Sets numbers own keeps) wants lines given next is = to_next _ lines _ given _ wants _ next refl is
-  shape_names e (Freezes own) wants lines given next is = to_next _ lines _ given _ wants _ next refl is
-  shape_names e (Unfreezes own) wants lines given next is = to_next _ lines _ given _ wants _ next refl is
   shape_names e (StartsFrame f has) wants lines given next is = absurd (cc)
   shape_names e (StartsCollection g low) wants lines given next is = absurd (cc)
   shape_names e Ends wants lines given next is = absurd (cc)
-  shape_names e (Inspects told calm there) wants lines given next is = to_next _ lines _ given _ wants _ next refl is
   shape_names e (AsksWhy x has calm) wants lines given next is = absurd (cc)
-
-pub call_names : (script : Script) (f p : ℕ) (u : World) (events : List Event) (after : World)
-    → Yields (start_frame script (record { sort = CallFrame; proc = p; subject = f; func = Some f }) u) events after → after.names ≡ u.names
-call_names script f p u events after step = go (u.budget == 0) step
-  where
-    go : (b : Bool) → Yields (if b then (BudgetSpent ∷ [], record u { outcome = BudgetIsSpent })
-        else (
-          Enter CallFrame f ∷ [],
-          record u {
-            budget = u.budget - 1;
-            stack = Framed (record {
-              sort = CallFrame;
-              subject = f;
-              function = Some f;
-              commands = body_of script p;
-            }) ∷ u.stack;
-          },
-        )) events after → after.names ≡ u.names
-    go true y = ap (λ (z : World). z.names) y.1
-    go false y = ap (λ (z : World). z.names) y.1
+  shape_names e shape wants lines given next is = to_next _ lines _ given _ wants _ next refl is
 
 -- a command that does not use a name leaves it alone
 pub done_names : (script : Script) (n : ℕ) (command : Command) (b : Activity) (below : List Activity) (v : World) (events : List Event) (after : World)
@@ -86,6 +53,6 @@ done_names script n command b below v events after spoken (Stood answers is) = a
 done_names script n command b below v events after spoken (Stopped answers is) = ap (λ (z : World). slice_get z.names n) is
 done_names script n command b below v events after spoken (Changed wants given next is shape) = ap (λ (z : World). slice_get z.names n) is
     ∙ shape_names (on b below v) command n spoken (Changes wants events given next) shape wants events given next refl
-done_names script n command b below v events after spoken (Began f has step) = ap (λ ns. slice_get ns n)
-    (call_names script f.serial (procedure_of (on b below v) f.serial) (on b below v) events after step)
+done_names script n command b below v events after spoken (Began f has step) =
+    called_either (λ lines w. slice_get w.names n ≡ slice_get v.names n) script (on b below v) f.serial events after step refl refl
 done_names script n command b below v events after spoken (Asked g none is) = ap (λ (z : World). slice_get z.names n) is

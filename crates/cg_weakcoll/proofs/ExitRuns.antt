@@ -3,9 +3,10 @@ use Rattle.std.proofs.Common.{◌≡◌, ◌≢◌, refl, sym, ◌∙◌, ap, su
 use Rattle.std.specs.Prelude.{count_by, if◌then◌else◌, option_and_then, slice_get}
 use Rattle.std.proofs.lemmas.List.{append_assoc}
 use Rattle.std.proofs.lemmas.List.Sums.{sum_by-append}
+use Rattle.std.proofs.lemmas.Option.{same_Some}
 use Rattle.cg_value.specs.declared.KindCode.TheVariants.{List as ListKind, Func, Weak}
 use Rattle.cg_value.specs.declared.Val.{Val}
-use Rattle.cg_value.specs.declared.Val.TheVariants.{None as Nothing, Int, Str, Ref}
+use Rattle.cg_value.specs.declared.Val.TheVariants.{Ref}
 use Rattle.cg_script.specs.declared.Script.{Script}
 use Rattle.cg_script.specs.declared.Command.{Command}
 use Rattle.cg_script.specs.declared.Command.TheVariants.{Call}
@@ -19,7 +20,7 @@ use Rattle.cg_machine.specs.declared.event.Event.{Event}
 use Rattle.cg_machine.specs.declared.event.Event.TheVariants.{Enter, Made}
 use Rattle.cg_machine.specs.declared.event.FrameSort.TheVariants.{Callback}
 use Rattle.cg_machine.specs.Program.{commands_of}
-use Rattle.cg_machine.specs.World.{World, Activity, TopLevel, Framed, Releasing, Dying, Collecting, ShuttingDown, opening, with_stack}
+use Rattle.cg_machine.specs.World.{World, Activity, TopLevel, Framed, Releasing, ShuttingDown, opening, with_stack}
 use Rattle.cg_machine.specs.Effects.{given_up_by}
 use Rattle.cg_laws.specs.Laws.{is_enter}
 use Rattle.cg_machine.specs.Operands.{value_of}
@@ -38,7 +39,7 @@ use Rattle.cg_weakcoll.proofs.ExitNamesKept.{done_names, set_got}
 use Rattle.cg_weakcoll.proofs.CallbacksOnce.{Tells}
 use Rattle.cg_weakcoll.proofs.OwnCommands.{IsRef, ref_step}
 use Rattle.cg_weakcoll.proofs.HiddenObjects.{Hidden}
-use Rattle.cg_weakcoll.proofs.ExitStages.{After, AreTame, AtCall, AtDeref, AtObject, AtQuit, AtWatch, Before, During, InFirst, InLast, InOther, InSecond, InThird, IsTail, Position, Stage, high_tame, positioned, stage_told, top_is}
+use Rattle.cg_weakcoll.proofs.ExitStages.{After, AreTame, AtDeref, Before, During, InFirst, InLast, InOther, InSecond, InThird, IsTail, Position, Stage, high_tame, positioned, stage_told, top_is}
 use Rattle.cg_weakcoll.proofs.ExitStageSteps.{Rests, stage_step}
 use Rattle.cg_weakcoll.proofs.OtherCommands.{AreHidden, IsHigh, high_taken, same_top}
 use Rattle.cg_weakcoll.proofs.WeakReferenceSteps.{went_tells}
@@ -192,17 +193,11 @@ module _ (script : Script) (budget : ℕ) (e : Exit) (ex : IsExit script e) wher
   tame_first : (t : Activity) (below : List Activity) → AllOther e (commands_on t) → next_command (t ∷ below) ≡ Some (watch_command e) → ⊥
   tame_first (TopLevel commands) below h is = not_other (h (watch_command e) (first_includes commands (watch_command e) is))
   tame_first (Framed f) below h is = not_other (h (watch_command e) (first_includes f.commands (watch_command e) is))
-  tame_first (Releasing references) below h is = cc
-  tame_first (Dying d) below h is = cc
-  tame_first (Collecting c) below h is = cc
-  tame_first (ShuttingDown started) below h is = cc
+  tame_first a below h is = cc
 
   tail_first : (fs : List Command) → IsTail e fs → first_of fs ≡ Some (watch_command e) → ⊥
   tail_first fs AtDeref is = cc
-  tail_first fs AtQuit is = cc
-  tail_first fs AtWatch is = cc
-  tail_first fs AtObject is = cc
-  tail_first fs AtCall is = cc
+  tail_first fs other is = cc
 
   record AtMaking (calls : ℕ) (stack : List Activity) : Type 0 where
     done : List Command
@@ -273,21 +268,16 @@ module _ (script : Script) (budget : ℕ) (e : Exit) (ex : IsExit script e) wher
     }
       where
         function_old : (v : Val) → value_of u (Name e.function) ≡ Some v → ¬ Includes (references (item v ∷ [])) w.next_serial
-        function_old Nothing at m = m
-        function_old (Int i) at m = m
-        function_old (Str i) at m = m
         function_old (Ref q) at m = either m (λ same. let low = named_below script budget w k e.function q (subst (λ o. Includes (references_of_value o) q)
             (sym at) (inl refl)) in absurd (omega (arith, low, same))) (λ none. none)
+        function_old v at m = m
 
         free : ¬ Includes (references d.entries) w.next_serial
         free m = either d.entries_are (λ none. subst (λ es. Includes (references es) w.next_serial) none m) (λ one. function_old d.function d.calls
             (subst (λ es. Includes (references es) w.next_serial) one m))
 
-        some_is : (p q : ℕ) → Some p ≡ Some q → p ≡ q
-        some_is p q i = cc
-
         other : Some d.object.serial ≢ Some w.next_serial
-        other same = let low = member_below script budget w k d.object (object_there u d.value d.object d.found) in let i = some_is d.object.serial w.next_serial same in omega (arith, low, i)
+        other same = let low = member_below script budget w k d.object (object_there u d.value d.object d.found) in let i = same_Some d.object.serial w.next_serial same in omega (arith, low, i)
 
         named_now : (q : ℕ) (m : Option (Option Val)) → slice_get after.names e.watch ≡ m → Includes (references_of_value (option_and_then (λ v. v) m)) q → q ≡ w.next_serial
         named_now q None at i = absurd i

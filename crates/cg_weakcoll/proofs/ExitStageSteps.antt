@@ -15,7 +15,7 @@ use Rattle.cg_machine.specs.declared.event.Event.{Event}
 use Rattle.cg_machine.specs.declared.event.Event.TheVariants.{BudgetSpent, End, Enter, Left, Refused}
 use Rattle.cg_machine.specs.declared.event.FrameSort.TheVariants.{Call as CallFrame}
 use Rattle.cg_machine.specs.Program.{body_of, commands_of}
-use Rattle.cg_machine.specs.World.{World, Activity, TopLevel, Framed, Releasing, ShuttingDown, Frame, BudgetIsSpent, with_stack}
+use Rattle.cg_machine.specs.World.{World, Activity, TopLevel, Framed, Releasing, ShuttingDown, Frame, with_stack}
 use Rattle.cg_machine.specs.Frame.{Yields, procedure_of, start_frame}
 use Rattle.cg_machine.specs.Commands.{CommandStep, new_collection, refused, stopped_frame}
 use Rattle.cg_machine.specs.Effects.{live}
@@ -23,11 +23,12 @@ use Rattle.cg_laws.specs.Laws.{is_enter}
 use Rattle.cg_laws.specs.Origins.{commands_on}
 use Rattle.cg_machine.specs.Run.{Step}
 use Rattle.cg_laws.proofs.Invariants.{AreLast, FromFrame, FromTop, HasCommands, Takes, emptied, on}
+use Rattle.cg_laws.proofs.Starting.{call_frame, called_either}
 use Rattle.cg_weakcoll.specs.Exits.{AllOther, Exit, IsExit, IsOther, exit_body, first_of, is_call, next_command, watch_command}
 use Rattle.cg_weakcoll.proofs.ActivitySteps.{all_to_call}
 use Rattle.cg_weakcoll.proofs.OwnCommands.{call_step, func_step}
-use Rattle.cg_weakcoll.proofs.ExitStages.{After, AreTame, AtCall, AtDeref, AtObject, AtQuit, AtWatch, Before, CallsIt, During, InFirst, InLast, InOther, InSecond, InThird, IsTail, IsTold, MakesIt, Position, Quiet, Stage, counted, frame_is, heads, joined_tame, position_told, positioned, tail_quiet, top_is}
-use Rattle.cg_weakcoll.proofs.OtherCommands.{AllHigh, AreHidden, DoneStack, GoesOn, IsEnded, IsHigh, call_stack, done_stack, high_call, high_step, other_call, other_exit, others_call, raised_high, same_top}
+use Rattle.cg_weakcoll.proofs.ExitStages.{After, AreTame, AtCall, AtDeref, Before, CallsIt, During, InFirst, InLast, InOther, InSecond, InThird, IsTail, IsTold, MakesIt, Position, Quiet, Stage, counted, frame_is, heads, joined_tame, position_told, positioned, tail_quiet, top_is}
+use Rattle.cg_weakcoll.proofs.OtherCommands.{AllHigh, AreHidden, DoneStack, GoesOn, IsEnded, IsHigh, done_stack, high_call, high_step, other_call, other_exit, others_call, raised_high, same_top}
 use Rattle.cg_weakcoll.proofs.KnownOfRuns.{Acted, Bottomed, Commanded, Done, Due, GaveUp, Known, Lasted, Over, Went, exactly}
 
 -- a step while another activity than the procedure's frame is on top, or one that does nothing
@@ -53,21 +54,30 @@ module _ (script : Script) (budget : ℕ) (e : Exit) (ex : IsExit script e) (P :
   abbrev IsStage : ℕ → List Activity → Type 0
   IsStage calls stack = Stage script e P calls stack
 
-  to_stack : (calls : ℕ) (stack to : List Activity) → to ≡ stack → IsStage calls stack → IsStage calls to
-  to_stack calls stack to is h = subst (IsStage calls) (sym is) h
-
-  none_tame : (b : Activity) → AllOther e (commands_on b) → AreTame e (b ∷ [])
-  none_tame b h a (inl i) = subst (λ (x : Activity). AllOther e (commands_on x)) i h
-  none_tame b h a (inr none) = absurd none
-
-  emptied_tame : (b : Activity) (below : List Activity) → HasCommands b → AreTame e below → AreTame e (emptied b ∷ below)
-  emptied_tame (TopLevel commands) below hb h a m = either m (λ i. subst (λ (x : Activity). AllOther e (commands_on x)) i (λ c n. absurd n)) (h a)
-  emptied_tame (Framed f) below hb h a m = either m (λ i. subst (λ (x : Activity). AllOther e (commands_on x)) i (λ c n. absurd n)) (h a)
-  emptied_tame (ShuttingDown started) below hb h a m = either m (λ i. subst (λ (x : Activity). AllOther e (commands_on x)) i (λ c n. absurd n)) (h a)
-  emptied_tame b below hb h a m = absurd hb
+  to_stack : {calls : ℕ} {stack to : List Activity} → to ≡ stack → IsStage calls stack → IsStage calls to
+  to_stack {calls} is h = subst (IsStage calls) (sym is) h
 
   nothing_tame : AreTame e []
   nothing_tame a m = absurd m
+
+  more_tame : (b : Activity) (below : List Activity) → AllOther e (commands_on b) → AreTame e below → AreTame e (b ∷ below)
+  more_tame b below h k a m = either m (λ i. subst (λ (x : Activity). AllOther e (commands_on x)) i h) (k a)
+
+  none_tame : (b : Activity) → AllOther e (commands_on b) → AreTame e (b ∷ [])
+  none_tame b h = more_tame b [] h nothing_tame
+
+  one_high : (b : Activity) → IsHigh e b → AllHigh e (b ∷ [])
+  one_high b h a m = either m (λ i. subst (IsHigh e) i h) (λ none. absurd none)
+
+  -- a step in which no call counts
+  uncalled : (w : World) (events : List Event) {calls : ℕ} {stack : List Activity} → is_call e.function (next_command w.stack) ≡ false → IsStage calls stack → IsStage (calls + step_calls w events) stack
+  uncalled w events {calls} {stack} calm h = subst (λ n. IsStage n stack) (sym (counted calls (count_by is_enter events) (is_call e.function (next_command w.stack)) calm)) h
+
+  emptied_tame : (b : Activity) (below : List Activity) → HasCommands b → AreTame e below → AreTame e (emptied b ∷ below)
+  emptied_tame (TopLevel commands) below hb h = more_tame (TopLevel []) below (λ c n. absurd n) h
+  emptied_tame (Framed f) below hb h = more_tame (Framed (record f { commands = [] })) below (λ c n. absurd n) h
+  emptied_tame (ShuttingDown started) below hb h = more_tame (ShuttingDown started) below (λ c n. absurd n) h
+  emptied_tame b below hb h = absurd hb
 
   joined : (tops below more : List Activity) (stack : List Activity) → stack ≡ tops ++ (below ++ more) → stack ≡ (tops ++ below) ++ more
   joined tops below more stack is = is ∙ sym (append_assoc tops below more)
@@ -79,24 +89,28 @@ module _ (script : Script) (budget : ℕ) (e : Exit) (ex : IsExit script e) (P :
   before_done : (calls : ℕ) (done commands : List Command) (c : Command) (stack : List Activity) → calls ≡ 0 → commands_of script.items ≡ done ++ c ∷ commands
       → DoneStack script budget e ex (TopLevel commands) [] stack → IsStage calls stack
   before_done calls done commands c stack none at (GoesOn tops is high) = Before tops (done ++ c ∷ []) commands is high (at ∙ sym (append_assoc done (c ∷ []) commands)) none
-  before_done calls done commands c stack none at (IsEnded is) = to_stack calls (TopLevel [] ∷ []) stack is (After (none_tame (TopLevel []) (λ d m. absurd m)) (omega (arith, none)))
+  before_done calls done commands c stack none at (IsEnded is) = to_stack is (After (none_tame (TopLevel []) (λ d m. absurd m)) (omega (arith, none)))
 
-  called_before : (calls p f : ℕ) (done commands : List Command) (c : Command) (u : World) (events : List Event) (after : World) → calls ≡ 0
+  called_before : (calls f : ℕ) (done commands : List Command) (c : Command) (u : World) (events : List Event) (after : World) → calls ≡ 0
       → commands_of script.items ≡ done ++ c ∷ commands → u.stack ≡ TopLevel commands ∷ [] → AllOther e commands
-      → Yields (start_frame script (record { sort = CallFrame; proc = p; subject = f; func = Some f }) u) events after → IsStage calls after.stack
-  called_before calls p f done commands c u events after none at stack other step = either (call_stack script budget e ex f p u events after step)
-      (λ s. Before [] (done ++ c ∷ []) commands (s ∙ stack) (λ a m. absurd m) (at ∙ sym (append_assoc done (c ∷ []) commands)) none)
-      (λ s. go (cases_of (p == e.proc)) (s ∙ ap (λ st. Framed frame ∷ st) stack))
+      → Yields (start_frame script (call_frame u f) u) events after → IsStage calls after.stack
+  called_before calls f done commands c u events after none at stack other step = called_either (λ lines w. IsStage calls w.stack) script u f events after step
+      (Before [] (done ++ c ∷ []) commands stack (λ a m. absurd m) all none) (go (cases_of (p == e.proc)))
     where
+      p : ℕ
+      p = procedure_of u f
+
       frame : Frame
       frame = record { sort = CallFrame; subject = f; function = Some f; commands = body_of script p }
 
-      go : (p == e.proc ≡ true) ⊎ (p == e.proc ≡ false) → after.stack ≡ Framed frame ∷ TopLevel commands ∷ [] → IsStage calls after.stack
-      go (inl t) s = let is = ap (body_of script) (eqb-true p e.proc t) ∙ ex.body in During [] frame commands s (λ a m. absurd m)
+      all : commands_of script.items ≡ (done ++ c ∷ []) ++ commands
+      all = at ∙ sym (append_assoc done (c ∷ []) commands)
+
+      go : (p == e.proc ≡ true) ⊎ (p == e.proc ≡ false) → IsStage calls (Framed frame ∷ u.stack)
+      go (inl t) = let is = ap (body_of script) (eqb-true p e.proc t) ∙ ex.body in During [] frame commands (ap (λ st. Framed frame ∷ st) stack) (λ a m. absurd m)
           (subst (IsTail e) (sym is) AtDeref) other (subst P (sym is) begins) none
-      go (inr g) s = Before (Framed frame ∷ []) (done ++ c ∷ []) commands s
-          (λ a m. either m (λ i. subst (IsHigh e) i (ex.bodies_other p (λ i. let no : true ≡ false = sym (eq-eqb p e.proc i) ∙ g in cc))) (λ n. absurd n))
-          (at ∙ sym (append_assoc done (c ∷ []) commands)) none
+      go (inr g) = Before (Framed frame ∷ []) (done ++ c ∷ []) commands (ap (λ st. Framed frame ∷ st) stack)
+          (λ a m. either m (λ i. subst (IsHigh e) i (ex.bodies_other p (λ i. let no : true ≡ false = sym (eq-eqb p e.proc i) ∙ g in cc))) (λ n. absurd n)) all none
 
   refused_before : (calls r : ℕ) (done commands : List Command) (c : Command) (u : World) (events : List Event) (after : World) → calls ≡ 0
       → commands_of script.items ≡ done ++ c ∷ commands → u.stack ≡ TopLevel commands ∷ [] → Yields (refused r u) events after → IsStage calls after.stack
@@ -112,18 +126,17 @@ module _ (script : Script) (budget : ℕ) (e : Exit) (ex : IsExit script e) (P :
       (done_stack script budget e ex c (TopLevel (c ∷ commands)) (TopLevel commands) [] v events after (FromTop commands) k h spoken d)
   top_command calls done commands c v events after none at k h (MakesIt is) step d = either (exactly script (TopLevel (c ∷ commands)) (TopLevel commands) [] v c events after (FromTop commands) step)
       (λ s. Before (new_collection s.0 false (on (TopLevel (c ∷ commands)) [] v) ∷ []) done (c ∷ commands) (ap (λ (z : World). z.stack) s.2)
-      (λ a m. either m (λ i. subst (IsHigh e) i tt) (λ n. absurd n)) at none)
+      (one_high _ tt) at none)
       (λ s. either (func_step script (on (TopLevel commands) [] v) events after e.exit e.proc (subst (λ (x : Command). CommandStep script (on (TopLevel commands) [] v) x events after) is s))
       (λ r. refused_before calls r.0 done commands c (on (TopLevel commands) [] v) events after none at refl r.1)
-      (λ y. Before (Releasing _ ∷ []) (done ++ c ∷ []) commands (ap (λ (z : World). z.stack) y.1) (λ a m. either m (λ i. subst (IsHigh e) i tt) (λ n. absurd n))
+      (λ y. Before (Releasing _ ∷ []) (done ++ c ∷ []) commands (ap (λ (z : World). z.stack) y.1) (one_high _ tt)
       (at ∙ sym (append_assoc done (c ∷ []) commands)) none))
   top_command calls done commands c v events after none at k h (CallsIt is) step d = either (exactly script (TopLevel (c ∷ commands)) (TopLevel commands) [] v c events after (FromTop commands) step)
       (λ s. Before (new_collection s.0 false (on (TopLevel (c ∷ commands)) [] v) ∷ []) done (c ∷ commands) (ap (λ (z : World). z.stack) s.2)
-      (λ a m. either m (λ i. subst (IsHigh e) i tt) (λ n. absurd n)) at none)
+      (one_high _ tt) at none)
       (λ s. either (call_step script (on (TopLevel commands) [] v) events after (Name e.exit) (subst (λ (x : Command). CommandStep script (on (TopLevel commands) [] v) x events after) is s))
       (λ r. refused_before calls r.0 done commands c (on (TopLevel commands) [] v) events after none at refl r.1)
-      (λ y. called_before calls (procedure_of (on (TopLevel commands) [] v) y.object.serial) y.object.serial done commands c (on (TopLevel commands) [] v)
-      events after none at refl (rest_other (positioned script e ex done commands c at)) y.begins))
+      (λ y. called_before calls y.object.serial done commands c (on (TopLevel commands) [] v) events after none at refl (rest_other (positioned script e ex done commands c at)) y.begins))
     where
       rest_other : Position script e ex c commands → AllOther e commands
       rest_other (InOther o) = absurd (o.names e.exit (subst (λ (x : Command). Includes (command_names x) e.exit) (sym is) (inl refl)) (inr (inl refl)))
@@ -158,10 +171,8 @@ module _ (script : Script) (budget : ℕ) (e : Exit) (ex : IsExit script e) (P :
 
   last_enters : (w : World) (a : Activity) (lines : List Event) → AreLast w a lines → count_by is_enter lines ≡ 0
   last_enters w (TopLevel []) lines is = ap (count_by is_enter) is ∙ none_enters End refl
-  last_enters w (TopLevel (c ∷ cs)) lines is = absurd is
   last_enters w (ShuttingDown true) lines is = let s = sum_by-cons (λ y. cond (is_enter y) 1 0) (Left (live w)) (End ∷ []) in let z = none_enters End refl
       in ap (count_by is_enter) is ∙ omega (arith, s, z)
-  last_enters w (ShuttingDown false) lines is = absurd is
   last_enters w a lines is = absurd is
 
   uncounted : (w : World) (events : List Event) (calls : ℕ) → calls ≡ 0 → count_by is_enter events ≡ 0 → calls + step_calls w events ≡ 0
@@ -178,18 +189,12 @@ module _ (script : Script) (budget : ℕ) (e : Exit) (ex : IsExit script e) (P :
       (ap (λ st. is_call e.function (next_command st)) top ∙ go f.commands tail left) ∙ none
     where
       go : (fs : List Command) → IsTail e fs → fs ≡ c ∷ cs → is_call e.function (first_of fs) ≡ false
-      go fs AtDeref i = refl
-      go fs AtQuit i = refl
-      go fs AtWatch i = refl
-      go fs AtObject i = refl
       go fs AtCall i = let h = heads _ c _ cs i in absurd (no_tail cs more (sym h.1))
         where
           no_tail : (xs : List Command) → IsTail e xs → xs ≡ [] → ⊥
           no_tail xs AtDeref j = cc
-          no_tail xs AtQuit j = cc
-          no_tail xs AtWatch j = cc
-          no_tail xs AtObject j = cc
-          no_tail xs AtCall j = cc
+          no_tail xs other j = cc
+      go fs other i = refl
 
   -- the last command starts at most one frame
   few_calls : (w : World) (events : List Event) (after : World) (f : Frame) (commands : List Command) → w.stack ≡ Framed f ∷ TopLevel commands ∷ []
@@ -213,45 +218,25 @@ module _ (script : Script) (budget : ℕ) (e : Exit) (ex : IsExit script e) (P :
           cap true = omega (arith, few, none)
           cap false = omega (arith, none)
 
-      started : (p g : ℕ) (u : World) → Yields (start_frame script (record { sort = CallFrame; proc = p; subject = g; func = Some g }) u) events after → count_by is_enter events ≤ 1
-      started p g u y = pick (u.budget == 0) y
-        where
-          pick : (b : Bool) → Yields (if b then (BudgetSpent ∷ [], record u { outcome = BudgetIsSpent })
-              else (
-                Enter CallFrame g ∷ [],
-                record u {
-                  budget = u.budget - 1;
-                  stack = Framed (record {
-                    sort = CallFrame;
-                    subject = g;
-                    function = Some g;
-                    commands = body_of script p;
-                  }) ∷ u.stack;
-                },
-              )) events after → count_by is_enter events ≤ 1
-          pick true z = let s = one_enters BudgetSpent in let i = ap (count_by is_enter) z.0 in omega (arith, s, i)
-          pick false z = let s = one_enters (Enter CallFrame g) in let i = ap (count_by is_enter) z.0 in omega (arith, s, i)
+      started : (g : ℕ) (u : World) → Yields (start_frame script (call_frame u g) u) events after → count_by is_enter events ≤ 1
+      started g u y = called_either (λ lines w. count_by is_enter lines ≤ 1) script u g events after y (one_enters BudgetSpent) (one_enters (Enter CallFrame g))
 
       go : (fs : List Command) → f.commands ≡ fs → IsTail e fs → calls + step_calls w events ≤ 1
-      go fs is AtDeref = zero _ _ is refl
-      go fs is AtQuit = zero _ _ is refl
-      go fs is AtWatch = zero _ _ is refl
-      go fs is AtObject = zero _ _ is refl
       go fs is AtCall = capped (either (exactly script (Framed f) (Framed (record f { commands = [] })) (TopLevel commands ∷ []) w (Call (Name e.function)) events after (FromFrame f [] is) here_step)
           (λ d. let i = ap (count_by is_enter) d.1 in omega (arith, i))
           (λ s. either (call_step script (on (Framed (record f { commands = [] })) (TopLevel commands ∷ []) w) events after (Name e.function) s)
           (λ r. let z = one_enters (Refused r.0) in let i = ap (count_by is_enter) r.1.0 in omega (arith, z, i))
-          (λ c. started _ c.object.serial _ c.begins)))
+          (λ c. started c.object.serial (on (Framed (record f { commands = [] })) (TopLevel commands ∷ []) w) c.begins)))
+      go fs is other = zero _ _ is refl
 
   tame_taken : (command : Command) (a b : Activity) → Takes command a b → AllOther e (commands_on a) → IsOther e command × AllOther e (commands_on b)
   tame_taken command a b (FromTop commands) h = (h command (inl refl), λ c m. h c (inr m))
   tame_taken command a b (FromFrame f commands left) h = (h command (subst (λ cs. Includes cs command) (sym left) (inl refl)), λ c m. h c (subst (λ cs. Includes cs c) (sym left) (inr m)))
 
   pub tame_call : (stack : List Activity) → AreTame e stack → is_call e.function (next_command stack) ≡ false
-  tame_call [] h = refl
   tame_call (TopLevel commands ∷ below) h = others_call script budget e ex commands (h (TopLevel commands) (inl refl))
   tame_call (Framed f ∷ below) h = others_call script budget e ex f.commands (h (Framed f) (inl refl))
-  tame_call (a ∷ below) h = refl
+  tame_call xs h = refl
 
   pub top_call : (done commands : List Command) → commands_of script.items ≡ done ++ commands → is_call e.function (first_of commands) ≡ false
   top_call done [] at = refl
@@ -272,58 +257,43 @@ module _ (script : Script) (budget : ℕ) (e : Exit) (ex : IsExit script e) (P :
         → Went script w events after → IsStage calls after.stack
     top_step calls done commands top at none (Acted a below is acts) =
         let s = same_top script budget e ex (TopLevel commands) a [] below w.stack top is in
-        to_stack calls (acts.tops ++ below) after.stack acts.stack
+        to_stack acts.stack
         (After (joined_tame e acts.tops below (λ c m. raised_high script budget e ex w c k h (acts.raised c m)) (subst (AreTame e) s.1 nothing_tame))
         (omega (arith, none)))
     top_step calls done commands top at none (Due g set no_line is) = Before (new_collection g false w ∷ []) done commands (ap (λ (z : World). z.stack) is
-        ∙ ap (λ st. new_collection g false w ∷ st) top) (λ a m. either m (λ i. subst (IsHigh e) i tt) (λ n. absurd n)) at none
+        ∙ ap (λ st. new_collection g false w ∷ st) top) (one_high _ tt) at none
     top_step calls done commands top at none (Over a under place last is) = Before [] done commands (ap (λ (z : World). z.stack) is ∙ top) (λ a m. absurd m) at none
     top_step calls done commands top at none (Bottomed below under no_line is) =
         let s = same_top script budget e ex (TopLevel commands) (TopLevel []) [] below w.stack top under in
-        to_stack calls (ShuttingDown false ∷ below) after.stack (ap (λ (z : World). z.stack) is)
+        to_stack (ap (λ (z : World). z.stack) is)
         (After (subst (λ st. AreTame e (ShuttingDown false ∷ st)) s.1 (none_tame (ShuttingDown false) (λ c m. absurd m))) (omega (arith, none)))
-    top_step calls done commands top at none (GaveUp name below under no_line is) = absurd (let s = same_top script budget e ex (TopLevel commands)
-        (ShuttingDown false) [] below w.stack top under in let no : TopLevel commands ≡ ShuttingDown false = s.0 in cc)
-    top_step calls done commands top at none (Lasted below under no_line is) = absurd (let s = same_top script budget e ex (TopLevel commands)
-        (ShuttingDown false) [] below w.stack top under in let no : TopLevel commands ≡ ShuttingDown false = s.0 in cc)
+    top_step calls done commands top at none (GaveUp name below under no_line is) = absurd (cc)
+    top_step calls done commands top at none (Lasted below under no_line is) = absurd (cc)
     top_step calls done commands top at none (Commanded command a b below v is takes hb d) =
         let s = same_top script budget e ex (TopLevel commands) a [] below w.stack top (ap (λ (z : World). z.stack) is) in
         taken_top calls done commands command a b below v events after takes s.0 (sym s.1) at none (subst (Known script budget) is k) (subst (AreHidden e) is h)
         (subst (λ (z : World). Step script z events after) is step) d
+
+    alike : {u : World} → after ≡ u → (after.objects ≡ u.objects) × (after.names ≡ u.names) × (after.next_serial ≡ u.next_serial)
+        × (all_to_call after.stack ≡ all_to_call u.stack)
+    alike is = (ap (λ (z : World). z.objects) is, ap (λ (z : World). z.names) is, ap (λ (z : World). z.next_serial) is, ap (λ (z : World). all_to_call z.stack) is)
 
     -- where the procedure's frame is on top
     frame_step : (calls : ℕ) (f : Frame) (commands : List Command) → w.stack ≡ Framed f ∷ TopLevel commands ∷ [] → IsTail e f.commands → AllOther e commands
         → Q f.commands → calls ≡ 0 → Went script w events after → IsStage (calls + step_calls w events) after.stack
     frame_step calls f commands top tail other q none (Acted a below is acts) =
         let s = same_top script budget e ex (Framed f) a (TopLevel commands ∷ []) below w.stack top is in
-        to_stack (calls + step_calls w events) (acts.tops ++ below) after.stack acts.stack
+        to_stack acts.stack
         (After (joined_tame e acts.tops below (λ c m. raised_high script budget e ex w c k h (acts.raised c m))
         (subst (AreTame e) s.1 (none_tame (TopLevel commands) other))) (few_calls w events after f commands top tail calls none step))
     frame_step calls f commands top tail other q none (Due g set no_line is) = During (new_collection g false w ∷ []) f commands (ap (λ (z : World). z.stack) is
-        ∙ ap (λ st. new_collection g false w ∷ st) top) (λ a m. either m (λ i. subst (IsHigh e) i tt) (λ n. absurd n)) tail other (rests f.commands tail q
-        (inr (
-          ap (λ (z : World). z.objects) is,
-          ap (λ (z : World). z.names) is,
-          ap (λ (z : World). z.next_serial) is,
-          ap (λ (z : World). all_to_call z.stack)
-              is,
-        )))
+        ∙ ap (λ st. new_collection g false w ∷ st) top) (one_high _ tt) tail other (rests f.commands tail q (inr (alike is)))
         (uncounted w events calls none (ap (count_by is_enter) no_line))
     frame_step calls f commands top tail other q none (Over a under place last is) = During [] f commands (ap (λ (z : World). z.stack) is ∙ top)
-        (λ a m. absurd m) tail other (rests f.commands tail q (inr (
-          ap (λ (z : World). z.objects) is,
-          ap (λ (z : World). z.names) is,
-          ap (λ (z : World). z.next_serial) is,
-          ap (λ (z : World). all_to_call z.stack) is,
-        ))) (uncounted w events calls none (last_enters w a events last))
-    frame_step calls f commands top tail other q none (Bottomed below under no_line is) = absurd (let s = same_top script budget e ex (Framed f) (TopLevel [])
-        (TopLevel commands ∷ []) below w.stack top under in let no : Framed f ≡ TopLevel [] = s.0 in cc)
-    frame_step calls f commands top tail other q none (GaveUp name below under no_line is) =
-        absurd (let s = same_top script budget e ex (Framed f) (ShuttingDown false) (TopLevel commands ∷ []) below w.stack top under in let no : Framed f
-        ≡ ShuttingDown false = s.0 in cc)
-    frame_step calls f commands top tail other q none (Lasted below under no_line is) =
-        absurd (let s = same_top script budget e ex (Framed f) (ShuttingDown false) (TopLevel commands ∷ []) below w.stack top under in let no : Framed f
-        ≡ ShuttingDown false = s.0 in cc)
+        (λ a m. absurd m) tail other (rests f.commands tail q (inr (alike is))) (uncounted w events calls none (last_enters w a events last))
+    frame_step calls f commands top tail other q none (Bottomed below under no_line is) = absurd (cc)
+    frame_step calls f commands top tail other q none (GaveUp name below under no_line is) = absurd (cc)
+    frame_step calls f commands top tail other q none (Lasted below under no_line is) = absurd (cc)
     frame_step calls f commands top tail other q none (Commanded command a b below v is takes hb d) =
         let s = same_top script budget e ex (Framed f) a (TopLevel commands ∷ []) below w.stack top (ap (λ (z : World). z.stack) is) in
         taken_frame command a b takes hb s.0 (λ spoken. done_stack script budget e ex command a b below v events after takes (subst (Known script budget) is k) (subst (AreHidden e) is h) spoken d)
@@ -342,9 +312,9 @@ module _ (script : Script) (budget : ℕ) (e : Exit) (ex : IsExit script e) (P :
             e ex c below after.stack → IsStage (calls + step_calls w events) after.stack
         goes g c same is_frame hc (inl t) zero known (GoesOn tops st high) = let now = st ∙ ap (λ x. tops ++ x ∷ below) is_frame
             ∙ ap (λ x. tops ++ Framed g ∷ x) same in During tops g commands now high t other (known tops t now) (zero t)
-        goes g c same is_frame hc (inr end) zero known (GoesOn tops st high) = to_stack _ (tops ++ c ∷ below) after.stack st (After (joined_tame e tops (c ∷ below) high (λ x m. either m
-            (λ i. subst (λ (y : Activity). AllOther e (commands_on y)) (sym is_frame ∙ i) (λ y n. absurd (subst (λ ys. Includes ys y) end n))) (own x))) few)
-        goes g c same is_frame hc t zero known (IsEnded st) = to_stack _ (emptied c ∷ below) after.stack st (After (emptied_tame c below hc own) few)
+        goes g c same is_frame hc (inr end) zero known (GoesOn tops st high) = to_stack st (After (joined_tame e tops (c ∷ below) high (more_tame c below
+            (subst (λ (y : Activity). AllOther e (commands_on y)) (sym is_frame) (λ y n. absurd (subst (λ ys. Includes ys y) end n))) own)) few)
+        goes g c same is_frame hc t zero known (IsEnded st) = to_stack st (After (emptied_tame c below hc own) few)
 
         taken_frame : (c : Command) (x y : Activity) → Takes c x y → HasCommands y → Framed f ≡ x → ((¬ Includes (command_names c) e.exit)
             → DoneStack script budget e ex y below after.stack) → IsStage (calls + step_calls w events) after.stack
@@ -368,20 +338,18 @@ module _ (script : Script) (budget : ℕ) (e : Exit) (ex : IsExit script e) (P :
 
     -- where only commands of other lines are left
     after_step : (calls : ℕ) → AreTame e w.stack → calls ≤ 1 → Went script w events after → IsStage calls after.stack
-    after_step calls tame few (Acted a below is acts) = to_stack calls (acts.tops ++ below) after.stack acts.stack
+    after_step calls tame few (Acted a below is acts) = to_stack acts.stack
         (After (joined_tame e acts.tops below (λ c m. raised_high script budget e ex w c k h (acts.raised c m))
         (λ c m. tame c (subst (λ st. Includes st c) (sym is) (inr m)))) few)
-    after_step calls tame few (Due g set no_line is) = to_stack calls (new_collection g false w ∷ w.stack) after.stack (ap (λ (z : World). z.stack) is)
-        (After (λ a m. either m (λ i. subst (λ (y : Activity). AllOther e (commands_on y)) i (λ c n. absurd n)) (tame a)) few)
-    after_step calls tame few (Over a under place last is) = to_stack calls w.stack after.stack (ap (λ (z : World). z.stack) is) (After tame few)
-    after_step calls tame few (Bottomed below under no_line is) = to_stack calls (ShuttingDown false ∷ below) after.stack (ap (λ (z : World). z.stack) is)
-        (After (λ a m. either m (λ i. subst (λ (y : Activity). AllOther e (commands_on y)) i (λ c n. absurd n))
-        (λ i. tame a (subst (λ st. Includes st a) (sym under) (inr i)))) few)
-    after_step calls tame few (GaveUp name below under no_line is) = to_stack calls (Releasing _ ∷ w.stack) after.stack (ap (λ (z : World). z.stack) is)
-        (After (λ a m. either m (λ i. subst (λ (y : Activity). AllOther e (commands_on y)) i (λ c n. absurd n)) (tame a)) few)
-    after_step calls tame few (Lasted below under no_line is) = to_stack calls (new_collection 2 false w ∷ ShuttingDown true ∷ below) after.stack
-        (ap (λ (z : World). z.stack) is) (After (λ a m. either m (λ i. subst (λ (y : Activity). AllOther e (commands_on y)) i (λ c n. absurd n))
-        (λ j. either j (λ i. subst (λ (y : Activity). AllOther e (commands_on y)) i (λ c n. absurd n)) (λ i. tame a (subst (λ st. Includes st a) (sym under) (inr i))))) few)
+    after_step calls tame few (Due g set no_line is) = to_stack (ap (λ (z : World). z.stack) is)
+        (After (more_tame _ w.stack (λ c n. absurd n) tame) few)
+    after_step calls tame few (Over a under place last is) = to_stack (ap (λ (z : World). z.stack) is) (After tame few)
+    after_step calls tame few (Bottomed below under no_line is) = to_stack (ap (λ (z : World). z.stack) is)
+        (After (more_tame _ below (λ c n. absurd n) (λ a i. tame a (subst (λ st. Includes st a) (sym under) (inr i)))) few)
+    after_step calls tame few (GaveUp name below under no_line is) = to_stack (ap (λ (z : World). z.stack) is)
+        (After (more_tame _ w.stack (λ c n. absurd n) tame) few)
+    after_step calls tame few (Lasted below under no_line is) = to_stack
+        (ap (λ (z : World). z.stack) is) (After (more_tame _ (ShuttingDown true ∷ below) (λ c n. absurd n) (more_tame _ below (λ c n. absurd n) (λ a i. tame a (subst (λ st. Includes st a) (sym under) (inr i))))) few)
     after_step calls tame few (Commanded command a b below v is takes hb d) =
         let t = tame_taken command a b takes (tame a (subst (λ st. Includes st a) (sym (ap (λ (z : World). z.stack) is)) (inl refl))) in
         go (done_stack script budget e ex command a b below v events after takes (subst (Known script budget) is k) (subst (AreHidden e) is h) (other_exit script budget e ex command t.0) d) t.1
@@ -390,25 +358,22 @@ module _ (script : Script) (budget : ℕ) (e : Exit) (ex : IsExit script e) (P :
         under c m = tame c (subst (λ st. Includes st c) (sym (ap (λ (z : World). z.stack) is)) (inr m))
 
         go : DoneStack script budget e ex b below after.stack → AllOther e (commands_on b) → IsStage calls after.stack
-        go (GoesOn tops st high) hc = to_stack calls (tops ++ b ∷ below) after.stack st
-            (After (joined_tame e tops (b ∷ below) high (λ x m. either m (λ i. subst (λ (y : Activity). AllOther e (commands_on y)) i hc) (under x))) few)
-        go (IsEnded st) hc = to_stack calls (emptied b ∷ below) after.stack st (After (emptied_tame b below hb under) few)
+        go (GoesOn tops st high) hc = to_stack st
+            (After (joined_tame e tops (b ∷ below) high (more_tame b below hc under)) few)
+        go (IsEnded st) hc = to_stack st (After (emptied_tame b below hb under) few)
 
     pub stage_step : (calls : ℕ) → Stage script e Q calls w.stack → Went script w events after → IsStage (calls + step_calls w events) after.stack
-    stage_step calls (Before [] done commands is high at none) x = subst (λ n. IsStage n after.stack)
-        (sym (counted calls (count_by is_enter events) (is_call e.function (next_command w.stack)) (ap (λ st. is_call e.function (next_command st)) is
-        ∙ top_call done commands at))) (top_step calls done commands is at none x)
+    stage_step calls (Before [] done commands is high at none) x = uncalled w events (ap (λ st. is_call e.function (next_command st)) is
+        ∙ top_call done commands at) (top_step calls done commands is at none x)
     stage_step calls (Before (t ∷ tops) done commands is high at none) x =
         let s = high_step script budget e ex w t (tops ++ TopLevel commands ∷ []) events after k h is (high t (inl refl)) x in
-        subst (λ n. IsStage n after.stack) (sym (counted calls (count_by is_enter events) (is_call e.function (next_command w.stack))
-        (ap (λ st. is_call e.function (next_command st)) is ∙ high_call script budget e ex t (tops ++ TopLevel commands ∷ []) (high t (inl refl)))))
+        uncalled w events (ap (λ st. is_call e.function (next_command st)) is ∙ high_call script budget e ex t (tops ++ TopLevel commands ∷ []) (high t (inl refl)))
         (Before (s.tops ++ tops) done commands (joined s.tops tops (TopLevel commands ∷ []) after.stack s.is) (high_joined s.tops tops s.high (λ a m. high a (inr m))) at none)
     stage_step calls (During [] f commands is high tail other q none) x = frame_step calls f commands is tail other q none x
     stage_step calls (During (t ∷ tops) f commands is high tail other q none) x =
         let s = high_step script budget e ex w t (tops ++ Framed f ∷ TopLevel commands ∷ []) events after k h is (high t (inl refl)) x in
-        subst (λ n. IsStage n after.stack) (sym (counted calls (count_by is_enter events) (is_call e.function (next_command w.stack))
-        (ap (λ st. is_call e.function (next_command st)) is ∙ high_call script budget e ex t (tops ++ Framed f ∷ TopLevel commands ∷ [])
-        (high t (inl refl)))))
+        uncalled w events (ap (λ st. is_call e.function (next_command st)) is ∙ high_call script budget e ex t (tops ++ Framed f ∷ TopLevel commands ∷ [])
+        (high t (inl refl)))
         (During (s.tops ++ tops) f commands (joined s.tops tops (Framed f ∷ TopLevel commands ∷ []) after.stack s.is)
         (high_joined s.tops tops s.high (λ a m. high a (inr m))) tail other (rests f.commands tail q (inl (
           t,
@@ -416,5 +381,4 @@ module _ (script : Script) (budget : ℕ) (e : Exit) (ex : IsExit script e) (P :
           is,
           high t (inl refl),
         ))) none)
-    stage_step calls (After tame few) x = subst (λ n. IsStage n after.stack)
-        (sym (counted calls (count_by is_enter events) (is_call e.function (next_command w.stack)) (tame_call w.stack tame))) (after_step calls tame few x)
+    stage_step calls (After tame few) x = uncalled w events (tame_call w.stack tame) (after_step calls tame few x)

@@ -11,7 +11,7 @@ use Rattle.cg_script.specs.Texts.{command_names, operand_names}
 use Rattle.cg_graph.specs.Member.{Includes}
 use Rattle.cg_graph.proofs.Members.{either, Includes-append_cases, Includes-append_right}
 use Rattle.cg_machine.specs.Program.{commands_of}
-use Rattle.cg_machine.specs.World.{Activity, TopLevel, Framed, Releasing, Dying, Collecting, ShuttingDown, Frame}
+use Rattle.cg_machine.specs.World.{Activity, TopLevel, Framed, Collecting, Frame}
 use Rattle.cg_laws.specs.Origins.{commands_on}
 use Rattle.cg_laws.proofs.Invariants.{FromFrame, FromTop, Takes}
 use Rattle.cg_weakcoll.specs.Exits.{AllOther, AreOthers, Exit, IsExit, IsOther, exit_commands, watch_command}
@@ -85,10 +85,8 @@ pub data IsTold (e : Exit) (command : Command) : Type 0 where
 pub high_tame : (e : Exit) (a : Activity) → IsHigh e a → AllOther e (commands_on a)
 high_tame e (TopLevel commands) h = absurd h
 high_tame e (Framed f) h = h
-high_tame e (Releasing references) h = λ c m. absurd m
-high_tame e (Dying d) h = λ c m. absurd m
 high_tame e (Collecting c) h = λ c m. absurd m
-high_tame e (ShuttingDown started) h = λ c m. absurd m
+high_tame e a h = λ c m. absurd m
 
 pub joined_tame : (e : Exit) (tops below : List Activity) → AllHigh e tops → AreTame e below → AreTame e (tops ++ below)
 joined_tame e tops below h k a m = either (Includes-append_cases tops below a m) (λ i. high_tame e a (h a i)) (k a)

@@ -5,7 +5,6 @@ use Rattle.std.specs.Prelude.{option_map, reverse, slice_get, slice_index_or, un
 use Rattle.std.proofs.lemmas.List.{append_cancel_right, length-map, map-append, reverse-append}
 use Rattle.cg_graph.specs.Member.{Includes}
 use Rattle.cg_graph.proofs.Members.{either, Includes-append_cases, Includes-append_left, Includes-append_right, Includes-map_cases}
-use Rattle.cg_laws.proofs.LinesNameLive.{reversed_back}
 use Rattle.cg_script.specs.declared.Script.{Script}
 use Rattle.cg_script.specs.declared.item.ClassDef.{ClassDef}
 use Rattle.cg_script.specs.declared.item.Item.{Item}
@@ -40,6 +39,8 @@ use Rattle.cg_weakcoll.proofs.LookLines.{ReadAs, read_as}
 use Rattle.cg_weakcoll.proofs.ReadLines.{does_all}
 use Rattle.cg_weakcoll.proofs.LinesWithoutNames.{Any, IsFine, Passage, behind, passage}
 use Rattle.cg_weakcoll.proofs.ItemsOfLines.{ArePlain, at_place, begun, begun_names, class_said, classes_split, command_said, commands_split, elsewhere, no_classes, no_procedures, procedure_said, procedures_split, run_each, through}
+use Rattle.cg_laws.proofs.MeasureInDeaths.{Includes-reverse}
+use Rattle.cg_laws.proofs.Lookups.{Includes-reversed}
 
 numbers-append : (front lines : List (List ℕ)) (l : ℕ) → finalize_numbers_from l (front ++ lines) ≡ finalize_numbers_from l front ++ finalize_numbers_from (l + length front) lines
 numbers-append [] lines l = let same : l ≡ l + 0 = omega arith in ap (λ n. finalize_numbers_from n lines) same
@@ -59,14 +60,8 @@ number_range (line ∷ lines) l m k = either (Includes-append_cases (finalize_nu
     here true (inr none) = absurd none
 
 is_finalize_form : (m : Option Form) → is_finalize m ≡ true → m ≡ Some Finalize
-is_finalize_form None e = absurd (cc)
 is_finalize_form (Some Finalize) e = refl
-is_finalize_form (Some form) e = absurd (cc)
-
-Includes-reversed : (xs : List ℕ) (x : ℕ) → Includes xs x → Includes (reverse xs) x
-Includes-reversed [] x m = m
-Includes-reversed (y ∷ xs) x m = subst (λ ys. Includes ys x) (sym (reverse-append (y ∷ []) xs))
-    (either m (λ e. Includes-append_right (reverse xs) (y ∷ []) x (inl e)) (λ k. Includes-append_left (reverse xs) (y ∷ []) x (Includes-reversed xs x k)))
+is_finalize_form m e = absurd (cc)
 
 reversed_from : (xs : List Exit) (x : Exit) → Includes (reverse xs) x → Includes xs x
 reversed_from [] x m = m
@@ -178,7 +173,7 @@ module _ (bytes : List ℕ) (fine : first_bad bytes ≡ None) (all : List (List 
         (ap (λ ps. ps ++ map (text_of all) (begun its_lines.later)) its_lines.procs ∙ append_assoc pA.known.procs (proc_name l ∷ []) (map (text_of all) (begun its_lines.later)) ∙ begun_behind)
 
     last : Calls all pB.known pB.later (reverse numbers)
-    last = calls all pB.known pB.number pB.later (reverse numbers) (λ m k. sound_call m (low_number m (reversed_back numbers m k))) pB.goes
+    last = calls all pB.known pB.number pB.later (reverse numbers) (λ m k. sound_call m (low_number m (Includes-reverse numbers m k))) pB.goes
 
     abbrev X : List Said
     X = pA.before
@@ -328,14 +323,14 @@ module _ (bytes : List ℕ) (fine : first_bad bytes ≡ None) (all : List (List 
 
     before_apart : (m : ℕ) → Includes (reverse before) m → Includes numbers m × (m ≢ l)
     before_apart m k =
-        let there = reversed_back before m k in
+        let there = Includes-reverse before m k in
         let range = number_range front 1 m there in
         let low = range.1 in
         (subst (λ ns. Includes ns m) (sym numbers_are) (Includes-append_left before (l ∷ after) m there), λ same. omega (arith, low, same))
 
     after_apart : (m : ℕ) → Includes (reverse after) m → Includes numbers m × (m ≢ l)
     after_apart m k =
-        let there = reversed_back after m k in
+        let there = Includes-reverse after m k in
         let range = number_range back (l + 1) m there in
         let high = range.0 in
         (subst (λ ns. Includes ns m) (sym numbers_are) (Includes-append_right before (l ∷ after) m (inr there)), λ same. omega (arith, high, same))
@@ -438,7 +433,7 @@ module _ (bytes : List ℕ) (fine : first_bad bytes ≡ None) (all : List (List 
   whole_front = behind all (written_from 1 lines) (final_lines lines) r.saids start
 
   whole_last : Calls all whole_front.known whole_front.later (reverse numbers)
-  whole_last = calls all whole_front.known whole_front.number whole_front.later (reverse numbers) (λ m k. sound_call m (low_number m (reversed_back numbers m k))) whole_front.goes
+  whole_last = calls all whole_front.known whole_front.number whole_front.later (reverse numbers) (λ m k. sound_call m (low_number m (Includes-reverse numbers m k))) whole_front.goes
 
   abbrev first_commands : List Command
   first_commands = commands_of (items_of false whole_front.before)

@@ -12,11 +12,11 @@ use Rattle.cg_script.proofs.Ascii.{both}
 use Rattle.cg_script.proofs.JoinedWords.{all_printable, sound_words}
 use Rattle.cg_graph.specs.Member.{Includes}
 use Rattle.cg_graph.proofs.Members.{either, Includes-append_cases, Includes-map_cases}
-use Rattle.cg_laws.proofs.LinesNameLive.{reversed_back}
 use Rattle.cg_weakcoll.specs.declared.form.Form.{Form}
 use Rattle.cg_weakcoll.specs.declared.form.Form.TheVariants.{Finalize}
 use Rattle.cg_weakcoll.specs.Expansion.{bad_or, call_line, call_lines, expanded_lines, expansion, fault_by, fault_of, final_lines, finalize_number, finalize_numbers_from, first_bad, first_bad_from, form_fault, form_lines, form_of, inside_after, is_finalize, name_fault, with_feeds, word_count, words_fit, written, written_by, written_from}
 use Rattle.cg_weakcoll.proofs.SoundWords.{EachLine, EachWord, IsSound, each_sound, sound_at, sound_call, sound_lines}
+use Rattle.cg_laws.proofs.MeasureInDeaths.{Includes-reverse}
 
 -- bytes without a line feed
 abbrev pub has_no_feed : List ℕ → Bool
@@ -95,12 +95,8 @@ no_fault form inside l line words e = go (list_all is_printable line) (nat_lt 10
         → cond {A = Option ℕ} (not a) (Some 1)
         (cond (b || c) (Some 5) (cond (not d) (Some 3) (cond (not f) (Some 4) (cond (is_finalize (Some form) && inside) (Some 7) None)))) ≡ None
         → Fits form l line words
-    go false b c d f ea ec ed ef k = absurd (cc)
-    go true true c d f ea ec ed ef k = absurd (cc)
-    go true false true d f ea ec ed ef k = absurd (cc)
-    go true false false false f ea ec ed ef k = absurd (cc)
-    go true false false true false ea ec ed ef k = absurd (cc)
     go true false false true true ea ec ed ef k = record { printable = ea; low = grind (arith, nat_tests); count = eqb-true (length words) (word_count form) ed; fit = ef }
+    go bit b c d f ea ec ed ef k = absurd (cc)
 
 first_none : (m n : Option ℕ) → option_or m n ≡ None → m ≡ None
 first_none None n e = refl
@@ -137,17 +133,12 @@ all_written (line ∷ lines) inside l h e =
     both_unfed (written l line) (written_from (l + 1) lines) (written_unfed inside l line (h line (inl refl)) k.0)
     (all_written lines (inside_after inside (words_of line)) (l + 1) (λ other m. h other (inr m)) k.1)
 
--- the numbers of `finalize` lines are small
-AreLow : List ℕ → Type 0
-AreLow numbers = (n : ℕ) → Includes numbers n → n ≤ 400000
-
 number_low : (inside : Bool) (l : ℕ) (line : List ℕ) → fault_of inside l line ≡ None → (n : ℕ) → Includes (finalize_number l line) n → n ≤ 400000
 number_low inside l line e n m = go (form_of (words_of line)) refl m
   where
     go : (f : Option Form) → form_of (words_of line) ≡ f → Includes (cond (is_finalize f) (l ∷ []) []) n → n ≤ 400000
-    go None is k = absurd k
     go (Some Finalize) is k = either k (λ same. subst (λ i. i ≤ 400000) same (fits_of Finalize inside l line is e).low) (λ no. absurd no)
-    go (Some form) is k = absurd k
+    go m is k = absurd k
 
 pub numbers_low : (lines : List (List ℕ)) (inside : Bool) (l : ℕ) → first_bad_from inside l lines ≡ None → (n : ℕ) → Includes (finalize_numbers_from l lines) n → n ≤ 400000
 numbers_low [] inside l e n m = absurd m
@@ -159,7 +150,7 @@ numbers_low (line ∷ lines) inside l e n m =
 calls_unfed : (numbers : List ℕ) → ((n : ℕ) → Includes numbers n → n ≤ 400000) → AreUnfed (call_lines numbers)
 calls_unfed numbers low line m =
     let n = Includes-map_cases (λ (l : ℕ). joined (call_line l)) (reverse numbers) line m in
-    let k : n.0 ≤ 400000 = low n.0 (reversed_back numbers n.0 n.1) in
+    let k : n.0 ≤ 400000 = low n.0 (Includes-reverse numbers n.0 n.1) in
     subst (λ (b : List ℕ). has_no_feed b ≡ true) n.2 (sound_unfed (call_line n.0) (sound_call n.0 k))
 
 pub expansion_lines : (bytes : List ℕ) → first_bad bytes ≡ None → lines_of (expansion bytes) ≡ expanded_lines (lines_of bytes)

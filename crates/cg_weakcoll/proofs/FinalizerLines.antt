@@ -59,20 +59,18 @@ new_proc xs text e =
 no_binding_form : (form : Form) → (not (is_value (word_of form)) || not (is_some (named bindings (word_of form))) || bytes_eq (word_of form) (codes "ref")) ≡ true
 unfolding atoms openers bindings
 no_binding_form forms.Def = refl
-no_binding_form forms.End = refl
 no_binding_form form = refl
 
 bind_worded : (x f : List ℕ) → is_value f ≡ true → worded (x ∷ codes "=" ∷ f ∷ []) ≡ formed forms.Bind (x ∷ codes "=" ∷ f ∷ [])
 bind_worded x f value = ap (λ (k : Form). formed k (x ∷ codes "=" ∷ f ∷ [])) (go (bytes_eq f (codes "ref")) (named bindings f) refl refl)
   where
     go : (b : Bool) (m : Option Form) → bytes_eq f (codes "ref") ≡ b → named bindings f ≡ m → cond (b && true) forms.Bind (unwrap_or m forms.Bind) ≡ forms.Bind
-    go true m ref is = refl
-    go false None ref is = refl
     go false (Some form) ref is =
         let told = ap (λ w. not (is_value w) || not (is_some (named bindings w)) || bytes_eq w (codes "ref")) (binding_is f form is).word ∙ no_binding_form form in
         let no : false ≡ true = sym (ap (λ t. not t || not (is_some (named bindings f)) || bytes_eq f (codes "ref")) value
         ∙ ap (λ (m : Option Form). not (is_some m) || bytes_eq f (codes "ref")) is ∙ ref) ∙ told in
         absurd (cc)
+    go b m ref is = refl
 
 -- its exit finalizer
 abbrev pub exit_of : List (List ℕ) → ℕ → ℕ → Operand → Operand → Exit

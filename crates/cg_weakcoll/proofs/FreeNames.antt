@@ -9,10 +9,10 @@ use Rattle.cg_script.specs.declared.command.Operand.{Operand}
 use Rattle.cg_script.specs.declared.command.Operand.TheVariants as operands
 use Rattle.cg_script.specs.declared.form.Form.{Form}
 use Rattle.cg_script.specs.declared.form.Sort.{Sort}
-use Rattle.cg_script.specs.declared.form.Sort.TheVariants.{Key, Variable, Name, Class, Proc, Finalizer, Value, Number, Profile, Budget, Count, Flag}
+use Rattle.cg_script.specs.declared.form.Sort.TheVariants.{Variable, Name, Class, Proc, Finalizer, Value}
 use Rattle.cg_script.specs.declared.part.Part.{Part}
 use Rattle.cg_script.specs.declared.part.Said.{Said}
-use Rattle.cg_script.specs.declared.part.Said.TheVariants.{Declares, Begins as BeginsProc, Ends, Does}
+use Rattle.cg_script.specs.declared.part.Said.TheVariants.{Does}
 use Rattle.cg_script.specs.Texts.{command_names, operand_names}
 use Rattle.cg_script.specs.Tables.{named}
 use Rattle.cg_script.specs.Words.{begins_name, is_quoted, string_text, number_of, after_prefix, atoms}
@@ -85,9 +85,8 @@ module _ (all : List (List ℕ)) (Free : List ℕ → Type 0) where
       by : (q b : Bool) → Begins (with_text_if texts (cond q (Some (string_text word)) (cond b (Some word) None))) all
           → AllHold (λ n. Free (text_of all n)) (operand_names (cond q (operands.Str (text_number texts (string_text word)))
           (cond b (operands.Name (text_number texts word)) (operands.Int (number_of word)))))
-      by true b h = tt
       by false true h = (placed_free texts word clear.itself h, tt)
-      by false false h = tt
+      by bit b h = tt
 
   pub value_free : (texts : List (List ℕ)) (word : List ℕ) (found : Option Operand) → named atoms word ≡ found → IsClear Free word
       → Begins (with_text_if texts (value_text found word)) all → AreFree (operand_names (operand_or found texts word))
@@ -115,18 +114,13 @@ module _ (all : List (List ℕ)) (Free : List ℕ → Type 0) where
 
   part_free : (procs classes texts : List (List ℕ)) (sort : Sort) (word : List ℕ) → IsClear Free word → Begins (with_text_if texts (text_in sort word)) all
       → PartFree (part_of procs classes texts sort word)
-  part_free procs classes texts Key word clear begins = tt
   part_free procs classes texts Variable word clear begins = placed_free texts word clear.itself begins
   part_free procs classes texts Name word clear begins = placed_free texts word clear.itself begins
   part_free procs classes texts Class word clear begins = numbered_free (defined_number classes word)
   part_free procs classes texts Proc word clear begins = numbered_free (defined_number procs word)
   part_free procs classes texts Finalizer word clear begins = finalizer_of_free procs (after_prefix (codes "del=") word) word
   part_free procs classes texts Value word clear begins = value_holds texts word (named atoms word) refl clear begins
-  part_free procs classes texts Number word clear begins = tt
-  part_free procs classes texts Profile word clear begins = tt
-  part_free procs classes texts Budget word clear begins = tt
-  part_free procs classes texts Count word clear begins = tt
-  part_free procs classes texts Flag word clear begins = tt
+  part_free procs classes texts other word clear begins = tt
 
   parts_free : (procs classes : List (List ℕ)) (form : Form) (words texts : List (List ℕ)) (place : ℕ) → AreClear Free words
       → Begins (texts_from texts form place words) all → EachFree (parts_from procs classes texts form place words)
@@ -159,9 +153,7 @@ module _ (all : List (List ℕ)) (Free : List ℕ → Type 0) where
   -- a line of free words uses only free names
   said_free : (s : Said) → AllHold (λ n. Free (text_of all n)) (said_by operand_names s) → AreFree (said_names s)
   said_free (Does command) each = free_each (command_names command) each
-  said_free (Declares item) each = none_free
-  said_free (BeginsProc name) each = none_free
-  said_free Ends each = none_free
+  said_free shape each = none_free
 
   pub names_free : (procs classes : List (List ℕ)) (form : Form) (words texts : List (List ℕ)) → AreClear Free words → (row form).fewest ≤ length words → Begins (texts_from texts form 0 words) all
       → AreFree (said_names (said form (parts_from procs classes texts form 0 words)))

@@ -1,12 +1,11 @@
 -- The functions of an exit finalizer's procedure stay hidden.
 use Rattle.std.proofs.Common.{◌≡◌, ◌≢◌, refl, sym, ◌∙◌, ap, subst, ℕ, ◌-◌, Bool, true, false, inl, inr, ◌⊎◌, List, [], ◌∷◌, Option, Some, None}
-use Rattle.std.specs.Prelude.{◌==◌, if◌then◌else◌}
 use Rattle.cg_value.specs.declared.KindCode.{KindCode}
 use Rattle.cg_value.specs.declared.KindCode.TheVariants.{Func, Weak}
 use Rattle.cg_value.specs.declared.Val.TheVariants.{Ref}
 use Rattle.cg_script.specs.declared.Script.{Script}
 use Rattle.cg_script.specs.declared.Command.{Command}
-use Rattle.cg_script.specs.declared.Command.TheVariants.{Call, MakeFunc}
+use Rattle.cg_script.specs.declared.Command.TheVariants.{MakeFunc}
 use Rattle.cg_script.specs.declared.Operand.{Operand}
 use Rattle.cg_script.specs.declared.Operand.TheVariants.{Name}
 use Rattle.cg_script.specs.Texts.{command_names}
@@ -14,11 +13,9 @@ use Rattle.cg_graph.specs.Member.{Includes}
 use Rattle.cg_graph.specs.Object.{Object}
 use Rattle.cg_graph.proofs.Members.{either, Includes-append_cases}
 use Rattle.cg_machine.specs.declared.event.Event.{Event}
-use Rattle.cg_machine.specs.declared.event.Event.TheVariants.{BudgetSpent, Enter, Made}
-use Rattle.cg_machine.specs.declared.event.FrameSort.TheVariants.{Call as CallFrame}
-use Rattle.cg_machine.specs.Program.{body_of}
-use Rattle.cg_machine.specs.World.{World, Activity, TopLevel, Framed, Releasing, ShuttingDown, Frame, Ended, BudgetIsSpent, push, with_stack}
-use Rattle.cg_machine.specs.Frame.{Yields, procedure_of, start_frame}
+use Rattle.cg_machine.specs.declared.event.Event.TheVariants.{Made}
+use Rattle.cg_machine.specs.World.{World, Activity, TopLevel, Framed, Releasing, ShuttingDown, Frame, Ended, push, with_stack}
+use Rattle.cg_machine.specs.Frame.{Yields, start_frame}
 use Rattle.cg_machine.specs.Effects.{Changes, bound, given_up_by, with_new}
 use Rattle.cg_machine.specs.Commands.{CommandStep, new_collection, refused, stopped_frame}
 use Rattle.cg_machine.specs.Operands.{self_in, weak_in}
@@ -26,13 +23,14 @@ use Rattle.cg_machine.specs.Run.{Step}
 use Rattle.cg_laws.proofs.Unreferred.{IsLater, later_refl}
 use Rattle.cg_laws.proofs.Invariants.{Takes, on}
 use Rattle.cg_laws.proofs.ShapeLaws.{shape_comes}
-use Rattle.cg_represents.proofs.Shapes.{ByDict, ByFunc, ByInst, ByList, ByRef, ByTuple, IsMadeBy}
+use Rattle.cg_laws.proofs.Starting.{call_frame, called_either}
+use Rattle.cg_represents.proofs.Shapes.{ByFunc, IsMadeBy}
 use Rattle.cg_weakcoll.specs.Exits.{Exit}
 use Rattle.cg_weakcoll.proofs.ActivitySteps.{Acts, all_to_call}
 use Rattle.cg_weakcoll.proofs.NewObjects.{new_hidden, old_hidden, unborn, unborn_taken}
 use Rattle.cg_weakcoll.proofs.CallbacksOnce.{lost_referent}
 use Rattle.cg_weakcoll.proofs.OwnCommands.{call_step, func_step}
-use Rattle.cg_weakcoll.proofs.HiddenObjects.{Hidden}
+use Rattle.cg_weakcoll.proofs.HiddenObjects.{Hidden, IsNoLocal}
 use Rattle.cg_weakcoll.proofs.HiddenObjectSteps.{acted_hidden, called_hidden, done_hidden, pushed, restacked, set_free, taken_hidden}
 use Rattle.cg_weakcoll.proofs.ExitStages.{CallsIt, IsTold, MakesIt, Quiet}
 use Rattle.cg_weakcoll.proofs.OtherCommands.{AreHidden}
@@ -40,47 +38,25 @@ use Rattle.cg_weakcoll.proofs.KnownOfRuns.{Acted, Asked, Began, Bottomed, Change
 
 -- no frame of a stack has the object as a local
 abbrev pub HasLocals : ℕ → List Activity → Type 0
-HasLocals o stack = (f : Frame) → Includes stack (Framed f) → (self_in f.sort f.subject ≢ Some o) × (weak_in f.sort f.subject ≢ Some o)
+HasLocals o stack = (f : Frame) → Includes stack (Framed f) → IsNoLocal o f.sort f.subject
 
 stopped_locals : (o : ℕ) (stack : List Activity) → HasLocals o stack → HasLocals o (stopped_frame stack)
-stopped_locals o [] h = h
 stopped_locals o (Framed g ∷ below) h = λ f m. either m (λ e. let same : record g { commands = [] } ≡ f = cc
-    in subst (λ (q : Frame). (self_in q.sort q.subject ≢ Some o) × (weak_in q.sort q.subject ≢ Some o)) same (h g (inl refl))) (λ i. h f (inr i))
-stopped_locals o (a ∷ below) h = h
+    in subst (λ (q : Frame). IsNoLocal o q.sort q.subject) same (h g (inl refl))) (λ i. h f (inr i))
+stopped_locals o xs h = h
 
 pub refused_hidden : (n o r : ℕ) (u : World) (events : List Event) (after : World) → Yields (refused r u) events after → Hidden n o u → Hidden n o after
 refused_hidden n o r u events after step h = subst (Hidden n o) (sym step.1) (restacked n o u (with_stack (stopped_frame u.stack) u) refl refl refl (stopped_locals o u.stack h.locals) h)
 
--- starting a frame leaves the objects
-pub called_objects : (script : Script) (f p : ℕ) (u : World) (events : List Event) (after : World)
-    → Yields (start_frame script (record { sort = CallFrame; proc = p; subject = f; func = Some f }) u) events after → after.objects ≡ u.objects
-called_objects script f p u events after step = go (u.budget == 0) step
-  where
-    go : (b : Bool) → Yields (if b then (BudgetSpent ∷ [], record u { outcome = BudgetIsSpent })
-        else (
-          Enter CallFrame f ∷ [],
-          record u {
-            budget = u.budget - 1;
-            stack = Framed (record {
-              sort = CallFrame;
-              subject = f;
-              function = Some f;
-              commands = body_of script p;
-            }) ∷ u.stack;
-          },
-        )) events after → after.objects ≡ u.objects
-    go true y = ap (λ (z : World). z.objects) y.1
-    go false y = ap (λ (z : World). z.objects) y.1
+-- a call leaves the objects
+pub called_objects : (script : Script) (f : ℕ) (u : World) (events : List Event) (after : World) → Yields (start_frame script (call_frame u f) u) events after → after.objects ≡ u.objects
+called_objects script f u events after step = called_either (λ lines w. w.objects ≡ u.objects) script u f events after step refl refl
 
 -- what makes a function of a procedure
 made_func : (command : Command) (code : KindCode) (class : Option ℕ) (p : ℕ) → IsMadeBy command code class → code ≡ Func → class ≡ Some p → (name : ℕ)
     × (cells : List Operand) × (command ≡ MakeFunc name p cells)
 made_func command code class p (ByFunc name proc cells) c is = (name, cells, let same : proc ≡ p = cc in ap (λ q. MakeFunc name q cells) same)
-made_func command code class p (ByList name items) c is = absurd (cc)
-made_func command code class p (ByTuple name items) c is = absurd (cc)
-made_func command code class p (ByDict name) c is = absurd (cc)
-made_func command code class p (ByInst name number) c is = absurd (cc)
-made_func command code class p (ByRef name target callback) c is = absurd (cc)
+made_func command code class p other c is = absurd (cc)
 
 done_comes : (script : Script) (command : Command) (b : Activity) (below : List Activity) (v : World) (events : List Event) (after : World) → Done script command (on b below v) b below events after
     → (y : Object) → Includes after.objects y → ((x : Object) × Includes v.objects x × IsLater x y) ⊎ IsMadeBy command y.code y.class
@@ -91,7 +67,7 @@ done_comes script command b below v events after (Changed wants given next is sh
 done_comes script command b below v events after (Began f has step) y m =
     inl (
       y,
-      subst (λ os. Includes os y) (called_objects script f.serial (procedure_of (on b below v) f.serial) (on b below v) events after step) m,
+      subst (λ os. Includes os y) (called_objects script f.serial (on b below v) events after step) m,
       later_refl y,
     )
 done_comes script command b below v events after (Asked g none is) y m = inl (y, subst (λ (z : World). Includes z.objects y) is m, later_refl y)
@@ -130,8 +106,9 @@ module _ (script : Script) (budget : ℕ) (e : Exit) where
         (λ x. later_kept (on a below v) after h (λ z i c hid. done_hidden script e.exit z.serial command b below v events after spoken done (turned z.serial hid)) x.0 y x.1 x.2 code class)
         (λ made. let c = made_func command y.code y.class e.proc made code class in absurd (makes c.0 c.1 c.2))
 
-    made_kept : command ≡ MakeFunc e.exit e.proc [] → Step script (on a below v) events after → AreHidden e after
-    made_kept is step = either (exactly script a b below v command events after takes step) (λ d. due_kept d.0 false (on a below v) (on a below v) after refl (λ o hid. hid) d.2 h)
+    told_kept : IsTold e command → Step script (on a below v) events after → Done script command (on b below v) b below events after → AreHidden e after
+    told_kept (Quiet spoken makes) step done = quiet_kept spoken makes done
+    told_kept (MakesIt is) step done = either (exactly script a b below v command events after takes step) (λ d. due_kept d.0 false (on a below v) (on a below v) after refl (λ o hid. hid) d.2 h)
         (λ s. either (func_step script (on b below v) events after e.exit e.proc (subst (λ (c : Command). CommandStep script (on b below v) c events after) is s))
         (λ r. same_kept (on a below v) after (ap (λ (z : World). z.objects) r.1.1) h (λ o hid. refused_hidden e.exit o r.0 (on b below v) events after r.1 (turned o hid))) made)
       where
@@ -150,18 +127,11 @@ module _ (script : Script) (budget : ℕ) (e : Exit) where
 
         made : Yields (Made Func u.next_serial ∷ [], next) events after → AreHidden e after
         made y = subst (AreHidden e) (sym y.1) in_next
-
-    call_kept : command ≡ Call (Name e.exit) → Step script (on a below v) events after → AreHidden e after
-    call_kept is step = either (exactly script a b below v command events after takes step) (λ d. due_kept d.0 false (on a below v) (on a below v) after refl (λ o hid. hid) d.2 h)
+    told_kept (CallsIt is) step done = either (exactly script a b below v command events after takes step) (λ d. due_kept d.0 false (on a below v) (on a below v) after refl (λ o hid. hid) d.2 h)
         (λ s. either (call_step script (on b below v) events after (Name e.exit) (subst (λ (c : Command). CommandStep script (on b below v) c events after) is s))
         (λ r. same_kept (on a below v) after (ap (λ (z : World). z.objects) r.1.1) h (λ o hid. refused_hidden e.exit o r.0 (on b below v) events after r.1 (turned o hid)))
-        (λ c. same_kept (on a below v) after (called_objects script c.object.serial (procedure_of (on b below v) c.object.serial) (on b below v) events after c.begins) h
-        (λ o hid. called_hidden script e.exit o c.object.serial (procedure_of (on b below v) c.object.serial) (on b below v) events after c.begins (turned o hid))))
-
-    told_kept : IsTold e command → Step script (on a below v) events after → Done script command (on b below v) b below events after → AreHidden e after
-    told_kept (Quiet spoken makes) step done = quiet_kept spoken makes done
-    told_kept (MakesIt is) step done = made_kept is step
-    told_kept (CallsIt is) step done = call_kept is step
+        (λ c. same_kept (on a below v) after (called_objects script c.object.serial (on b below v) events after c.begins) h
+        (λ o hid. called_hidden script e.exit o c.object.serial (on b below v) events after c.begins (turned o hid))))
 
   pub dropped_hidden : (n o name : ℕ) (w : World) (given : List ℕ) → Hidden n o w → Hidden n o (push (Releasing given) (bound w name None))
   dropped_hidden n o name w given h = pushed n o (Releasing given) (bound w name None) (λ f i. cc) (record {

@@ -3,7 +3,7 @@ use Rattle.std.proofs.Common.{◌≡◌, ◌≢◌, refl, sym, ◌∙◌, ap, su
 use Rattle.std.specs.Prelude.{◌==◌, if◌then◌else◌, flat_map, slice_set}
 use Rattle.std.proofs.lemmas.Bool.{eqb-true}
 use Rattle.cg_value.specs.declared.KindCode.{KindCode}
-use Rattle.cg_value.specs.declared.KindCode.TheVariants.{List as ListKind, Tuple, Dict, Inst, Func, Weak}
+use Rattle.cg_value.specs.declared.KindCode.TheVariants.{Inst}
 use Rattle.cg_value.specs.declared.Place.{Place}
 use Rattle.cg_value.specs.declared.Place.TheVariants.{Untracked, Gen, Frozen}
 use Rattle.cg_value.specs.declared.Val.{Val}
@@ -20,11 +20,10 @@ use Rattle.cg_graph.specs.Value.{put, reference_in, references, references_of_va
 use Rattle.cg_graph.proofs.Members.{cases_of, either, includes-of, Includes-of, Includes-append_cases, Includes-append_left, Includes-append_right, Includes-filter_cases, Includes-map, Includes-map_cases}
 use Rattle.cg_graph.proofs.Objects.{occurrences-append}
 use Rattle.cg_machine.specs.declared.event.Event.{Event}
-use Rattle.cg_machine.specs.declared.event.Event.TheVariants.{BudgetSpent, Enter}
 use Rattle.cg_machine.specs.declared.event.FrameSort.{FrameSort}
 use Rattle.cg_machine.specs.declared.event.FrameSort.TheVariants.{Del, Legacy as LegacyFrame, Callback, Call as CallFrame}
 use Rattle.cg_machine.specs.Program.{body_of, finalizer_of, legacy_of}
-use Rattle.cg_machine.specs.World.{World, Activity, TopLevel, Framed, Releasing, Dying, Death, Collecting, ShuttingDown, Frame, DyingPhase, AfterFinalizer, AfterLegacy, BudgetIsSpent, with_change, with_stack}
+use Rattle.cg_machine.specs.World.{World, Activity, Framed, Releasing, Dying, Death, Frame, BudgetIsSpent, with_change, with_stack}
 use Rattle.cg_machine.specs.Holdings.{dying_holds, holdings, holds}
 use Rattle.cg_machine.specs.Frame.{Yields, procedure_of, start_frame}
 use Rattle.cg_machine.specs.Collect.{IsMemberOf, Survives, merged, merged_place}
@@ -32,20 +31,22 @@ use Rattle.cg_machine.specs.Effects.{Changes, Effect, bound, frozen, may_track, 
 use Rattle.cg_represents.specs.Orderly.{runs_own_frame}
 use Rattle.cg_machine.specs.Operands.{is_dict, self_in, weak_in}
 use Rattle.cg_laws.proofs.CommandRefs.{HoldNone, all_free, entry_free, option_free, put_free}
-use Rattle.cg_represents.proofs.Lists.{present}
+use Rattle.cg_represents.proofs.Lists.{present, each_changed}
 use Rattle.cg_laws.proofs.Unreferred.{some_later}
 use Rattle.cg_laws.proofs.Lookups.{references_of_member, same_object}
 use Rattle.cg_laws.proofs.Invariants.{FromFrame, FromTop, Takes, emptied, on}
 use Rattle.cg_represents.proofs.Serials.{Rises}
 use Rattle.cg_laws.proofs.ShapeLaws.{changes_leave}
-use Rattle.cg_represents.proofs.Shapes.{AsksWhy, Binds, Edits, Ends, Freezes, HasParts, Inspects, IsAtHand, IsEdit, Makes, Puts, Sets, Shape, Shows, StartsCollection, StartsFrame, Stays, Tells, Unfreezes}
+use Rattle.cg_represents.proofs.Shapes.{AsksWhy, Binds, Edits, Ends, Freezes, HasParts, IsAtHand, IsEdit, Makes, Puts, Sets, Shape, StartsCollection, StartsFrame, Unfreezes}
+use Rattle.cg_represents.proofs.Representing.{death_found}
 use Rattle.cg_laws.proofs.Unheld.{held_by_member}
 use Rattle.cg_laws.specs.Apart.{IsFound}
-use Rattle.cg_promises.proofs.FinalSetFreed.{death_on}
+use Rattle.cg_laws.proofs.Starting.{call_frame, called_either}
+use Rattle.cg_laws.proofs.Condemned.{filter_holdings}
 use Rattle.cg_promises.proofs.HoldersMove.{IsFree}
-use Rattle.cg_promises.proofs.FinalSetStart.{less_held}
+use Rattle.cg_promises.proofs.FullStart.{own_held}
 use Rattle.cg_weakcoll.proofs.ActivitySteps.{Acts, BegunBy, IsCollected, all_to_call}
-use Rattle.cg_weakcoll.proofs.HiddenObjects.{Hidden, hand_not, held_by}
+use Rattle.cg_weakcoll.proofs.HiddenObjects.{Hidden, IsNoLocal, hand_not, held_by}
 use Rattle.cg_weakcoll.proofs.KnownOfRuns.{Began, Changed, Asked, Done, Known, Stood, Stopped}
 
 abbrev in_merge : ℕ → Object → Object
@@ -63,7 +64,7 @@ others_hold w = name_holdings w.names ++ (1 ∷ []) ++ flat_map holds w.stack
 pub held_survives : (w : World) (g o : ℕ) → Includes (others_hold w) o → IsMemberOf (merged g w) (Gen g) o → Survives (merged g w) (Gen g) o
 held_survives w g o k m =
     let more = present o (others_hold w) k in
-    let less = less_held (is_at (Gen g)) (merged g w).objects o in
+    let less = filter_holdings (is_at (Gen g)) (merged g w).objects o in
     let same : occurrences o (entry_holdings (graph_of (merged g w).objects)) ≡ occurrences o (entry_holdings (graph_of w.objects)) =
     ap (λ (gr : Graph). occurrences o (entry_holdings gr)) (same_graph g w.objects) in
     let all : occurrences o (holdings (merged g w)) ≡ occurrences o (holdings w) = ap (λ (gr : Graph). occurrences o (name_holdings w.names ++ (1 ∷ [])
@@ -72,11 +73,6 @@ held_survives w g o k m =
     let b = occurrences-append o (name_holdings w.names ++ (1 ∷ [])) (entry_holdings (graph_of w.objects)) in
     let d = occurrences-append o (name_holdings w.names ++ (1 ∷ [])) (flat_map holds w.stack) in
     first (omega (arith, more, less, same, all, a, b, d)) m
-
-own_held : (o : ℕ) (phase : DyingPhase) → runs_own_frame phase ≡ true → Includes (dying_holds o phase) o
-own_held o AfterFinalizer e = inl refl
-own_held o AfterLegacy e = inl refl
-own_held o phase e = absurd (let k : false ≡ true = e in cc)
 
 -- a member of a generation is tracked
 member_tracked : (w : World) (g o : ℕ) → Rises 1 w.next_serial w.objects → IsMemberOf (merged g w) (Gen g) o → (x : Object) → Includes w.objects x → x.serial ≡ o → x.place ≢ Untracked
@@ -105,7 +101,7 @@ not_collected script budget w o k entries root x i s collected = go (cases_of (i
           entries_none = entries;
           stack_none = unheld;
         } in
-        let d = death_on o w.stack (k.minded.minds o (subst (Includes (serials w.objects)) s (Includes-map (λ (z : Object). z.serial) w.objects x i)) free) in
+        let d = death_found o w.stack (k.minded.minds o (subst (Includes (serials w.objects)) s (Includes-map (λ (z : Object). z.serial) w.objects x i)) free) in
         fades d.0 d.1 d.2 unheld (cases_of (runs_own_frame d.0.phase))
       where
         fades : (d : Death) → Includes w.stack (Dying d) → d.object ≡ o → ¬ Includes (flat_map holds w.stack) o → (runs_own_frame d.phase ≡ true) ⊎ (runs_own_frame d.phase ≡ false) → ⊥
@@ -118,26 +114,18 @@ finalizer_inst script x p e = go x.code refl
   where
     go : (k : KindCode) → x.code ≡ k → x.code ≡ Inst
     go Inst c = c
-    go ListKind c = absurd (let no : finalizer_of script x ≡ None = cc in let bad : None ≡ Some p = sym no ∙ e in cc)
-    go Tuple c = absurd (let no : finalizer_of script x ≡ None = cc in let bad : None ≡ Some p = sym no ∙ e in cc)
-    go Dict c = absurd (let no : finalizer_of script x ≡ None = cc in let bad : None ≡ Some p = sym no ∙ e in cc)
-    go Func c = absurd (let no : finalizer_of script x ≡ None = cc in let bad : None ≡ Some p = sym no ∙ e in cc)
-    go Weak c = absurd (let no : finalizer_of script x ≡ None = cc in let bad : None ≡ Some p = sym no ∙ e in cc)
+    go k c = absurd (let no : finalizer_of script x ≡ None = cc in let bad : None ≡ Some p = sym no ∙ e in cc)
 
 pub legacy_inst : (script : Script) (x : Object) (p : ℕ) → legacy_of script x ≡ Some p → x.code ≡ Inst
 legacy_inst script x p e = go x.code refl
   where
     go : (k : KindCode) → x.code ≡ k → x.code ≡ Inst
     go Inst c = c
-    go ListKind c = absurd (let no : legacy_of script x ≡ None = cc in let bad : None ≡ Some p = sym no ∙ e in cc)
-    go Tuple c = absurd (let no : legacy_of script x ≡ None = cc in let bad : None ≡ Some p = sym no ∙ e in cc)
-    go Dict c = absurd (let no : legacy_of script x ≡ None = cc in let bad : None ≡ Some p = sym no ∙ e in cc)
-    go Func c = absurd (let no : legacy_of script x ≡ None = cc in let bad : None ≡ Some p = sym no ∙ e in cc)
-    go Weak c = absurd (let no : legacy_of script x ≡ None = cc in let bad : None ≡ Some p = sym no ∙ e in cc)
+    go k c = absurd (let no : legacy_of script x ≡ None = cc in let bad : None ≡ Some p = sym no ∙ e in cc)
 
 -- the same world with another stack, whose frames have the same locals
 pub restacked : (n o : ℕ) (w after : World) → after.names ≡ w.names → after.objects ≡ w.objects → after.next_serial ≡ w.next_serial
-    → ((f : Frame) → Includes after.stack (Framed f) → (self_in f.sort f.subject ≢ Some o) × (weak_in f.sort f.subject ≢ Some o)) → Hidden n o w → Hidden n o after
+    → ((f : Frame) → Includes after.stack (Framed f) → IsNoLocal o f.sort f.subject) → Hidden n o w → Hidden n o after
 restacked n o w after names objects serial locals h = record {
   names = λ x apart. subst (λ ns. ¬ Includes (held_by ns x) o) (sym names) (h.names x apart);
   root = h.root;
@@ -172,34 +160,29 @@ acted_hidden script budget n o w a below events after k top acts uncalled h = re
     some_is : (i : ℕ) → Some i ≡ Some o → i ≡ o
     some_is i e = cc
 
-    begun : (sort : FrameSort) (subject p : ℕ) → BegunBy script w sort subject p → (self_in sort subject ≢ Some o) × (weak_in sort subject ≢ Some o)
+    begun : (sort : FrameSort) (subject p : ℕ) → BegunBy script w sort subject p → IsNoLocal o sort subject
     begun Del subject p by = (λ e. h.kind by.0 by.1 (by.2 ∙ some_is subject e) (finalizer_inst script by.0 p by.3), λ e. let no : None ≡ Some o = e in cc)
     begun LegacyFrame subject p by = (λ e. h.kind by.0 by.1 (by.2 ∙ some_is subject e) (legacy_inst script by.0 p by.3), λ e. let no : None ≡ Some o = e in cc)
     begun Callback subject p by = (λ e. let no : None ≡ Some o = e in cc, λ e. uncalled (subst (Includes (all_to_call w.stack)) (some_is subject e) by.0))
     begun CallFrame subject p by = absurd by
 
-    framed : (f : Frame) → Includes (acts.tops ++ below) (Framed f) → (self_in f.sort f.subject ≢ Some o) × (weak_in f.sort f.subject ≢ Some o)
+    framed : (f : Frame) → Includes (acts.tops ++ below) (Framed f) → IsNoLocal o f.sort f.subject
     framed f m = either (Includes-append_cases acts.tops below (Framed f) m) (λ i. let b = acts.raised (Framed f) i in begun f.sort f.subject b.proc b.by)
         (λ i. h.locals f (subst (λ st. Includes st (Framed f)) (sym top) (inr i)))
 
 -- a command is taken from the top, or the remaining commands are dropped
 pub taken_locals : (o : ℕ) (command : Command) (a b : Activity) (below : List Activity) → Takes command a b → ((f : Frame) → Includes (a ∷ below) (Framed f)
-    → (self_in f.sort f.subject ≢ Some o) × (weak_in f.sort f.subject ≢ Some o))
-    → (f : Frame) → Includes (b ∷ below) (Framed f) → (self_in f.sort f.subject ≢ Some o) × (weak_in f.sort f.subject ≢ Some o)
+    → IsNoLocal o f.sort f.subject)
+    → (f : Frame) → Includes (b ∷ below) (Framed f) → IsNoLocal o f.sort f.subject
 taken_locals o command a b below (FromTop commands) h f (inl e) = cc
 taken_locals o command a b below (FromFrame g commands left) h f (inl e) = let same : record g { commands = commands } ≡ f = cc
-    in subst (λ (q : Frame). (self_in q.sort q.subject ≢ Some o) × (weak_in q.sort q.subject ≢ Some o)) same (h g (inl refl))
+    in subst (λ (q : Frame). IsNoLocal o q.sort q.subject) same (h g (inl refl))
 taken_locals o command a b below takes h f (inr m) = h f (inr m)
 
-emptied_locals : (o : ℕ) (a : Activity) (below : List Activity) → ((f : Frame) → Includes (a ∷ below) (Framed f) → (self_in f.sort f.subject ≢ Some o) × (weak_in f.sort f.subject ≢ Some o))
-    → (f : Frame) → Includes (emptied a ∷ below) (Framed f) → (self_in f.sort f.subject ≢ Some o) × (weak_in f.sort f.subject ≢ Some o)
-emptied_locals o (TopLevel commands) below h f (inl e) = cc
-emptied_locals o (Framed g) below h f (inl e) = let same : record g { commands = [] } ≡ f = cc in subst (λ (q : Frame). (self_in q.sort q.subject ≢ Some o)
-    × (weak_in q.sort q.subject ≢ Some o)) same (h g (inl refl))
-emptied_locals o (Releasing references) below h f (inl e) = cc
-emptied_locals o (Dying d) below h f (inl e) = cc
-emptied_locals o (Collecting c) below h f (inl e) = cc
-emptied_locals o (ShuttingDown started) below h f (inl e) = cc
+emptied_locals : (o : ℕ) (a : Activity) (below : List Activity) → ((f : Frame) → Includes (a ∷ below) (Framed f) → IsNoLocal o f.sort f.subject)
+    → (f : Frame) → Includes (emptied a ∷ below) (Framed f) → IsNoLocal o f.sort f.subject
+emptied_locals o (Framed g) below h f (inl e) = let same : record g { commands = [] } ≡ f = cc in subst (λ (q : Frame). IsNoLocal o q.sort q.subject) same (h g (inl refl))
+emptied_locals o a below h f (inl e) = cc
 emptied_locals o a below h f (inr m) = h f (inr m)
 
 pub taken_hidden : (n o : ℕ) (command : Command) (a b : Activity) (below : List Activity) (v : World) → Takes command a b → Hidden n o (on a below v) → Hidden n o (on b below v)
@@ -209,19 +192,15 @@ pub emptied_hidden : (n o : ℕ) (a : Activity) (below : List Activity) (v : Wor
 emptied_hidden n o a below v h = restacked n o (on a below v) (on (emptied a) below v) refl refl refl (emptied_locals o a below h.locals) h
 
 pub set_free : (names : List (Option Val)) (name x o : ℕ) (v : Option Val) → ¬ Includes (references_of_value v) o → ¬ Includes (held_by names x) o → ¬ Includes (held_by (slice_set names name v) x) o
-set_free [] name x o v free h = h
 set_free (u ∷ names) zero zero o v free h = free
-set_free (u ∷ names) zero (suc x) o v free h = h
-set_free (u ∷ names) (suc name) zero o v free h = h
 set_free (u ∷ names) (suc name) (suc x) o v free h = set_free names name x o v free h
+set_free xs name x o v free h = h
 
 -- another name than this one is bound
 pub set_other : (names : List (Option Val)) (name x : ℕ) (v : Option Val) → x ≢ name → held_by (slice_set names name v) x ≡ held_by names x
-set_other [] name x v apart = refl
 set_other (u ∷ names) zero zero v apart = absurd (apart refl)
-set_other (u ∷ names) zero (suc x) v apart = refl
-set_other (u ∷ names) (suc name) zero v apart = refl
 set_other (u ∷ names) (suc name) (suc x) v apart = set_other names name x v (λ e. apart (ap suc e))
+set_other xs name x v apart = refl
 
 -- the objects after a change
 pub changed_hidden : (n o : ℕ) (u next : World) → ((x : ℕ) → x ≢ n → ¬ Includes (held_by next.names x) o) → u.next_serial ≤ next.next_serial → next.stack ≡ u.stack
@@ -271,11 +250,7 @@ module _ (n o : ℕ) (u : World) (command : Command) (h : Hidden n o u) (spoken 
       (λ new. entry_free e o (hand_not n o u h command e.val spoken new.2) (nothing_not e.key new.1)))
 
   changed : (f : Object → Object) (s : ℕ) → ((x : Object) → Includes u.objects x → x.serial ≡ s → Unshown (f x)) → (y : Object) → Includes (change f s u.objects) y → Unshown y
-  changed f s k y m = let x = Includes-map_cases (λ x. if x.serial == s then f x else x) u.objects y m in subst Unshown x.2 (one (x.0.serial == s) x.0 refl x.1)
-    where
-      one : (b : Bool) (x : Object) → (x.serial == s) ≡ b → Includes u.objects x → Unshown (if b then f x else x)
-      one true x t i = k x i (eqb-true x.serial s t)
-      one false x t i = old x i
+  changed f s k = each_changed Unshown f (λ x. x.serial == s) u.objects (λ x i t. k x i (eqb-true x.serial s t)) (λ x i t. old x i)
 
   placed : (f : Place → Place) → ((p : Place) → IsFound (f p) → IsFound p) → (y : Object) → Includes (map (λ x. with_place (f x.place) x) u.objects) y → Unshown y
   placed f k y m = let x = Includes-map_cases (λ x. with_place (f x.place) x) u.objects y m in subst Unshown x.2 (
@@ -283,9 +258,6 @@ module _ (n o : ℕ) (u : World) (command : Command) (h : Hidden n o u) (spoken 
     h.referents x.0 x.1,
     λ s. (λ i. h.apart x.0 x.1 s (k x.0.place i), h.kind x.0 x.1 s),
   )
-
-  same_serial : (s t : ℕ) → Some s ≡ Some t → s ≡ t
-  same_serial s t e = cc
 
   put_one : (key v : Val) (entries : List Entry) (s : ℕ) → HoldNone o (put entries key v) → (x : Object) → Includes u.objects x → Unshown (tracked_by u key v (with_entries (put entries key v) x))
   put_one key v entries s free x m = go (is_dict x && not (is_tracked x) && (may_track u key || may_track u v))
@@ -302,66 +274,55 @@ module _ (n o : ℕ) (u : World) (command : Command) (h : Hidden n o u) (spoken 
     λ e. absurd (let low = h.made in omega (arith, low, e, ss)),
   )
 
+  -- what a command leaves
+  left : {wanted wants : Bool} {told lines : List Event} {given_up given : List ℕ} {after next : World} → Changes wanted told given_up after ≡ Changes wants lines given next
+      → Hidden n o after → Hidden n o next
+  left {wanted} {wants} {told} {lines} {given_up} {given} {after} {next} is k = let same : after ≡ next = cc in subst (Hidden n o) same k
+
   shape_hidden : (e : Effect) → Shape u command e → (wants : Bool) (lines : List Event) (given : List ℕ) (next : World) → e ≡ Changes wants lines given next → next.stack ≡ u.stack → Hidden n o next
-  shape_hidden e (Binds name v own hand) wants lines given next is stack =
-      let same : bound u name v ≡ next = cc in
-      subst (Hidden n o) same (changed_hidden n o u (bound u name v) (λ x apart. set_free u.names name x o v (option_value_free v hand) (h.names x apart)) (omega arith) refl old h)
+  shape_hidden e (Binds name v own hand) wants lines given next is stack = left is
+      (changed_hidden n o u (bound u name v) (λ x apart. set_free u.names name x o v (option_value_free v hand) (h.names x apart)) (omega arith) refl old h)
   shape_hidden e (Makes name kind class entries referent own parts) wants lines given next is stack =
-      let made : World = bound (with_new u kind class entries referent) name (Some (Ref u.next_serial)) in
-      let same : made ≡ next = cc in
       let fresh : ¬ Includes (references_of_value (Some (Ref u.next_serial))) o = λ m. either m (λ i. let low = h.made in absurd (omega (arith, low, i))) (λ no. no) in
-      subst (Hidden n o) same (changed_hidden n o u made (λ x apart. set_free u.names name x o (Some (Ref u.next_serial)) fresh (h.names x apart)) (omega arith) refl
+      left is (changed_hidden n o u (bound (with_new u kind class entries referent) name (Some (Ref u.next_serial)))
+      (λ x apart. set_free u.names name x o (Some (Ref u.next_serial)) fresh (h.names x apart)) (omega arith) refl
       (λ y m. either (Includes-append_cases u.objects (_ ∷ []) y m) (old y)
       (λ k. either k (λ i. new_unshown kind class entries referent y (ap (λ (z : Object). z.entries) (sym i)) (ap (λ (z : Object). z.referent) (sym i))
       (ap (λ (z : Object). z.serial) (sym i)) parts) (λ no. absurd no))) h)
-  shape_hidden e (Edits wants_memory x entries given_up has mutable edit) wants lines given next is stack =
-      let after : World = with_change (with_entries entries) x.serial u in
-      let same : after ≡ next = cc in
-      subst (Hidden n o) same (changed_hidden n o u after h.names (omega arith) refl (changed (with_entries entries) x.serial
+  shape_hidden e (Edits wants_memory x entries given_up has mutable edit) wants lines given next is stack = left is
+      (changed_hidden n o u (with_change (with_entries entries) x.serial u) h.names (omega arith) refl (changed (with_entries entries) x.serial
       (λ z m s. (edit_free x entries given_up has.member edit, h.referents z m, λ i. (h.apart z m i, h.kind z m i)))) h)
   shape_hidden e (Puts x key v has mutable hand_key hand room) wants lines given next is stack =
       let f : Object → Object = λ y. tracked_by u key v (with_entries (put x.entries key v) y) in
-      let after : World = with_change f x.serial u in
-      let same : after ≡ next = cc in
       let free : HoldNone o (put x.entries key v) = put_free x.entries key v o (h.entries x has.member) (hand_not n o u h command key spoken hand_key) (hand_not n o u h command v spoken hand) in
-      subst (Hidden n o) same (changed_hidden n o u after h.names (omega arith) refl (changed f x.serial (λ z m s. put_one key v x.entries x.serial free z m)) h)
-  shape_hidden e (Shows v hand) wants lines given next is stack = let same : u ≡ next = cc in subst (Hidden n o) same h
-  shape_hidden e (Tells line tells) wants lines given next is stack = let same : u ≡ next = cc in subst (Hidden n o) same h
-  shape_hidden e Stays wants lines given next is stack = let same : u ≡ next = cc in subst (Hidden n o) same h
-  shape_hidden e (Sets numbers own keeps) wants lines given next is stack = let same : record u { numbers = numbers } ≡ next = cc in subst (Hidden n o) same
+      left is (changed_hidden n o u (with_change f x.serial u) h.names (omega arith) refl (changed f x.serial (λ z m s. put_one key v x.entries x.serial free z m)) h)
+  shape_hidden e (Sets numbers own keeps) wants lines given next is stack = left is
       (changed_hidden n o u (record u { numbers = numbers }) h.names (omega arith) refl old h)
-  shape_hidden e (Freezes own) wants lines given next is stack =
-      let after : World = record u { objects = replaced frozen u; numbers = record u.numbers { zero_count = 0; one_count = 0; two_count = 0 } } in
-      let same : after ≡ next = cc in
-      subst (Hidden n o) same (changed_hidden n o u after h.names (omega arith) refl (placed frozen frozen_found) h)
-  shape_hidden e (Unfreezes own) wants lines given next is stack =
-      let after : World = record u { objects = replaced unfrozen u } in
-      let same : after ≡ next = cc in
-      subst (Hidden n o) same (changed_hidden n o u after h.names (omega arith) refl (placed unfrozen unfrozen_found) h)
+  shape_hidden e (Freezes own) wants lines given next is stack = left is
+      (changed_hidden n o u (record u { objects = replaced frozen u; numbers = record u.numbers { zero_count = 0; one_count = 0; two_count = 0 } }) h.names
+      (omega arith) refl (placed frozen frozen_found) h)
+  shape_hidden e (Unfreezes own) wants lines given next is stack = left is
+      (changed_hidden n o u (record u { objects = replaced unfrozen u }) h.names (omega arith) refl (placed unfrozen unfrozen_found) h)
   shape_hidden e (StartsFrame f has) wants lines given next is stack = absurd (cc)
   shape_hidden e (StartsCollection g low) wants lines given next is stack = absurd (cc)
   shape_hidden e Ends wants lines given next is stack = absurd (cc)
-  shape_hidden e (Inspects told calm there) wants lines given next is stack = let same : u ≡ next = cc in subst (Hidden n o) same h
   shape_hidden e (AsksWhy x has calm) wants lines given next is stack = absurd (cc)
+  shape_hidden e shape wants lines given next is stack = left is h
 
-pub called_hidden : (script : Script) (n o f p : ℕ) (u : World) (events : List Event) (after : World)
-    → Yields (start_frame script (record { sort = CallFrame; proc = p; subject = f; func = Some f }) u) events after → Hidden n o u → Hidden n o after
-called_hidden script n o f p u events after step h = go (u.budget == 0) step
+pub called_hidden : (script : Script) (n o f : ℕ) (u : World) (events : List Event) (after : World) → Yields (start_frame script (call_frame u f) u) events after → Hidden n o u
+    → Hidden n o after
+called_hidden script n o f u events after step h = called_either (λ lines w. Hidden n o w) script u f events after step
+    (restacked n o u (record u { outcome = BudgetIsSpent }) refl refl refl h.locals h)
+    (restacked n o u (record u { budget = u.budget - 1; stack = Framed frame ∷ u.stack }) refl refl refl (λ g m. either m (λ e. locals g (frame_is g e)) (h.locals g)) h)
   where
     frame : Frame
-    frame = record { sort = CallFrame; subject = f; function = Some f; commands = body_of script p }
+    frame = record { sort = CallFrame; subject = f; function = Some f; commands = body_of script (procedure_of u f) }
 
-    locals : (g : Frame) → (frame ≡ g) ⊎ Includes u.stack (Framed g) → (self_in g.sort g.subject ≢ Some o) × (weak_in g.sort g.subject ≢ Some o)
-    locals g (inl e) = subst (λ (q : Frame). (self_in q.sort q.subject ≢ Some o) × (weak_in q.sort q.subject ≢ Some o)) e (λ i. let no : None ≡ Some o = i in cc, λ i. let no : None ≡ Some o = i in cc)
-    locals g (inr m) = h.locals g m
+    locals : (g : Frame) → frame ≡ g → IsNoLocal o g.sort g.subject
+    locals g e = subst (λ (q : Frame). IsNoLocal o q.sort q.subject) e (λ i. let no : None ≡ Some o = i in cc, λ i. let no : None ≡ Some o = i in cc)
 
     frame_is : (g : Frame) → Framed frame ≡ Framed g → frame ≡ g
     frame_is g e = cc
-
-    go : (b : Bool) → Yields (if b then (BudgetSpent ∷ [], record u { outcome = BudgetIsSpent })
-        else (Enter CallFrame f ∷ [], record u { budget = u.budget - 1; stack = Framed frame ∷ u.stack })) events after → Hidden n o after
-    go true s = subst (Hidden n o) (sym s.1) (restacked n o u (record u { outcome = BudgetIsSpent }) refl refl refl h.locals h)
-    go false s = subst (Hidden n o) (sym s.1) (restacked n o u _ refl refl refl (λ g m. locals g (either m (λ e. inl (frame_is g e)) (λ i. inr i))) h)
 
 -- a command that does not use the name
 pub done_hidden : (script : Script) (n o : ℕ) (command : Command) (b : Activity) (below : List Activity) (v : World) (events : List Event) (after : World)
@@ -371,5 +332,5 @@ done_hidden script n o command b below v events after spoken (Stopped answers is
 done_hidden script n o command b below v events after spoken (Changed wants given next is shape) h = subst (Hidden n o) (sym is)
     (pushed n o (Releasing given) next (λ f e. cc) (shape_hidden n o (on b below v) command h spoken (Changes wants events given next) shape wants events given
     next refl (changes_leave (on b below v) command wants events given next shape).stack))
-done_hidden script n o command b below v events after spoken (Began f has step) h = called_hidden script n o f.serial (procedure_of (on b below v) f.serial) (on b below v) events after step h
+done_hidden script n o command b below v events after spoken (Began f has step) h = called_hidden script n o f.serial (on b below v) events after step h
 done_hidden script n o command b below v events after spoken (Asked g none is) h = subst (Hidden n o) (sym is) (pushed n o _ (on b below v) (λ f e. cc) h)

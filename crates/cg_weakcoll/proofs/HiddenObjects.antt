@@ -26,6 +26,10 @@ use Rattle.cg_laws.specs.Apart.{IsFound}
 abbrev pub held_by : List (Option Val) → ℕ → List ℕ
 held_by names x = references_of_value (option_and_then (λ v. v) (slice_get names x))
 
+-- a frame's locals are other objects
+abbrev pub IsNoLocal : ℕ → FrameSort → ℕ → Type 0
+IsNoLocal o sort subject = (self_in sort subject ≢ Some o) × (weak_in sort subject ≢ Some o)
+
 -- only the name n holds the object o
 pub record Hidden (n o : ℕ) (w : World) : Type 0 where
   pub names : (x : ℕ) → x ≢ n → ¬ Includes (held_by w.names x) o
@@ -33,7 +37,7 @@ pub record Hidden (n o : ℕ) (w : World) : Type 0 where
   pub made : o < w.next_serial
   pub entries : (x : Object) → Includes w.objects x → ¬ Includes (references x.entries) o
   pub referents : (x : Object) → Includes w.objects x → x.referent ≢ Some o
-  pub locals : (f : Frame) → Includes w.stack (Framed f) → (self_in f.sort f.subject ≢ Some o) × (weak_in f.sort f.subject ≢ Some o)
+  pub locals : (f : Frame) → Includes w.stack (Framed f) → IsNoLocal o f.sort f.subject
   pub apart : (x : Object) → Includes w.objects x → x.serial ≡ o → ¬ IsFound x.place
   pub kind : (x : Object) → Includes w.objects x → x.serial ≡ o → x.code ≢ Inst
 
@@ -54,21 +58,8 @@ module _ (n o : ℕ) (w : World) (h : Hidden n o w) where
 
   framed_not : (pick : FrameSort → ℕ → Option ℕ) (stack : List Activity) → ((f : Frame) → Includes stack (Framed f) → pick f.sort f.subject ≢ Some o)
       → option_and_then (λ (f : Frame). pick f.sort f.subject) (frame_on stack) ≢ Some o
-  framed_not pick [] k e = let no : None ≡ Some o = e in cc
   framed_not pick (Framed f ∷ below) k e = k f (inl refl) e
-  framed_not pick (a ∷ below) k e = let no : None ≡ Some o = e in cc
-
-  entry_not : (s i : ℕ) (v : Val) → option_map (λ (e : Entry). e.val) (slice_get (entries_of w.objects s) i) ≡ Some v → IsNot v
-  entry_not s i v e = found (object_at w.objects s) refl (slice_get (entries_of w.objects s) i) refl e
-    where
-      free : (m : Option Object) → object_at w.objects s ≡ m → HoldNone o (unwrap_or (option_map (λ (x : Object). x.entries) m) [])
-      free None at k = k
-      free (Some x) at k = h.entries x (found_at w.objects s x at).0 k
-
-      found : (x : Option Object) → object_at w.objects s ≡ x → (m : Option Entry) → slice_get (entries_of w.objects s) i ≡ m → option_map (λ (e : Entry). e.val) m ≡ Some v → IsNot v
-      found x there None at k = none_not v k
-      found x there (Some entry) at k = same_not entry.val v k (λ r. got_free (entries_of w.objects s) i o entry at (free (object_at w.objects s) refl)
-          (Includes-append_left (option_to_list (reference_in entry.val)) (option_to_list (reference_in entry.key)) o (option_held (reference_in entry.val) o r)))
+  framed_not pick xs k e = let no : None ≡ Some o = e in cc
 
   cell_not : (m : Option Frame) (i : ℕ) (v : Val)
       → option_and_then (λ (f : Frame). option_and_then (λ s. option_map (λ (e : Entry). e.val) (slice_get (entries_of w.objects s) i)) f.function) m ≡ Some v
@@ -78,7 +69,16 @@ module _ (n o : ℕ) (w : World) (h : Hidden n o w) where
     where
       go : (q : Option ℕ) → option_and_then (λ s. option_map (λ (e : Entry). e.val) (slice_get (entries_of w.objects s) i)) q ≡ Some v → IsNot v
       go None k = none_not v k
-      go (Some s) k = entry_not s i v k
+      go (Some s) k = found (object_at w.objects s) refl (slice_get (entries_of w.objects s) i) refl k
+        where
+          free : (m : Option Object) → object_at w.objects s ≡ m → HoldNone o (unwrap_or (option_map (λ (x : Object). x.entries) m) [])
+          free None at k = k
+          free (Some x) at k = h.entries x (found_at w.objects s x at).0 k
+
+          found : (x : Option Object) → object_at w.objects s ≡ x → (m : Option Entry) → slice_get (entries_of w.objects s) i ≡ m → option_map (λ (k : Entry). k.val) m ≡ Some v → IsNot v
+          found x there None at k = none_not v k
+          found x there (Some entry) at k = same_not entry.val v k (λ r. got_free (entries_of w.objects s) i o entry at (free (object_at w.objects s) refl)
+              (Includes-append_left (option_to_list (reference_in entry.val)) (option_to_list (reference_in entry.key)) o (option_held (reference_in entry.val) o r)))
 
   pub operand_not : (operand : Operand) (v : Val) → ¬ Includes (operand_names operand) n → value_of w operand ≡ Some v → IsNot v
   operand_not NoneWord v own e = same_not Nothing v e (λ r. let no : None ≡ Some o = r in cc)

@@ -1,5 +1,5 @@
 -- The items of what some lines and the ones after them say.
-use Rattle.std.proofs.Common.{◌≡◌, ◌≢◌, ℕ, zero, suc, List, [], ◌∷◌, ◌++◌, length, map, Bool, true, false, Some, refl, sym, ap, subst, ◌∙◌, inl, inr, ◌⊎◌, append_assoc}
+use Rattle.std.proofs.Common.{◌≡◌, ◌≢◌, ℕ, zero, suc, List, [], ◌∷◌, ◌++◌, length, map, Bool, true, false, Some, refl, sym, ap, subst, ◌∙◌, inl, inr, ◌⊎◌}
 use Rattle.std.specs.Prelude.{slice_get}
 use Rattle.cg_script.specs.declared.item.Item.TheVariants as items
 use Rattle.cg_script.specs.declared.item.Proc.{Proc}
@@ -18,10 +18,6 @@ use Rattle.cg_weakcoll.proofs.ReadLines.{does_all}
 abbrev pub through : Bool → List Said → Bool
 through inside [] = inside
 through inside (s ∷ saids) = through (inside_behind s inside) saids
-
-pub through-append : (xs ys : List Said) (inside : Bool) → through inside (xs ++ ys) ≡ through (through inside xs) ys
-through-append [] ys inside = refl
-through-append (s ∷ xs) ys inside = through-append xs ys (inside_behind s inside)
 
 pub commands_split : (xs ys : List Said) (inside : Bool) → commands_of (items_of inside (xs ++ ys)) ≡ commands_of (items_of inside xs) ++ commands_of (items_of (through inside xs) ys)
 commands_split [] ys inside = refl
@@ -57,10 +53,8 @@ no_classes (c ∷ commands) = no_classes commands
 -- a procedure that has ended has its body
 body_split : (xs ys : List Said) → through true xs ≡ false → body_of (xs ++ ys) ≡ body_of xs
 body_split [] ys e = absurd (cc)
-body_split (Declares item ∷ xs) ys e = refl
-body_split (Begins name ∷ xs) ys e = refl
-body_split (Ends ∷ xs) ys e = refl
 body_split (Does c ∷ xs) ys e = ap (λ l. c ∷ l) (body_split xs ys e)
+body_split xs ys e = refl
 
 -- the procedures of lines that leave none open, and of those after them
 pub procedures_split : (xs ys : List Said) (inside : Bool) → through inside xs ≡ false → procedures (items_of inside (xs ++ ys)) ≡ procedures (items_of inside xs) ++ procedures (items_of false ys)
@@ -97,12 +91,9 @@ command_said (Does d ∷ xs) false c plain (inl e) = inl (ap Does e)
 command_said (Does d ∷ xs) false c plain (inr m) = inr (command_said xs false c (behind _ xs plain) m)
 
 body_said : (xs : List Said) (c : Command) → Includes (body_of xs) c → Includes xs (Does c)
-body_said [] c m = absurd m
-body_said (Declares item ∷ xs) c m = absurd m
-body_said (Begins name ∷ xs) c m = absurd m
-body_said (Ends ∷ xs) c m = absurd m
 body_said (Does d ∷ xs) c (inl e) = inl (ap Does e)
 body_said (Does d ∷ xs) c (inr m) = inr (body_said xs c m)
+body_said xs c m = absurd m
 
 pub procedure_said : (xs : List Said) (inside : Bool) (p : Proc) (c : Command) → ArePlain xs → Includes (procedures (items_of inside xs)) p → Includes p.body c → Includes xs (Does c)
 procedure_said [] inside p c plain m b = absurd m
@@ -132,10 +123,6 @@ begun_by s = []
 abbrev pub begun : List Said → List ℕ
 begun [] = []
 begun (s ∷ saids) = begun_by s ++ begun saids
-
-pub begun-append : (xs ys : List Said) → begun (xs ++ ys) ≡ begun xs ++ begun ys
-begun-append [] ys = refl
-begun-append (s ∷ xs) ys = ap (λ l. begun_by s ++ l) (begun-append xs ys) ∙ sym (append_assoc (begun_by s) (begun xs) (begun ys))
 
 pub begun_names : (xs : List Said) (inside : Bool) → ArePlain xs → map (λ (p : Proc). p.name) (procedures (items_of inside xs)) ≡ begun xs
 begun_names [] inside plain = refl

@@ -39,7 +39,6 @@ is_whole s = false
 
 not_whole : (form : Form) (ps : List Part) → is_whole (said form ps) ≡ false
 not_whole forms.Def ps = refl
-not_whole forms.End ps = refl
 not_whole form ps = refl
 
 no_whole : (form : Form) (ps : List Part) → IsPlain (said form ps)
@@ -52,13 +51,12 @@ no_whole form ps = record {
 procs_begun : (all : List (List ℕ)) (known : Known) (form : Form) (words : List (List ℕ)) → (row form).fewest ≤ length words → is_repeated known form words
     ≡ false → Begins (texts_from known.texts form 0 words) all
     → procs_after known.procs form words ≡ known.procs ++ map (text_of all) (begun_by (said form (parts_of known form words)))
-procs_begun all known forms.Def [] enough fresh begins = absurd (omega arith)
-procs_begun all known forms.Def (w ∷ []) enough fresh begins = absurd (omega arith)
 procs_begun all known forms.Def (w ∷ c ∷ ws) enough fresh begins =
     ap (λ b. cond b known.procs (known.procs ++ c ∷ [])) fresh
     ∙ ap (λ (t : List ℕ). known.procs ++ t ∷ [])
     (sym (text_found all known.texts c (begins_along (with_text known.texts c) (texts_from (with_text known.texts c) forms.Def 2 ws) all
     (begins_texts forms.Def ws (with_text known.texts c) 2) begins)))
+procs_begun all known forms.Def xs enough fresh begins = absurd (omega arith)
 procs_begun all known form words enough fresh begins = sym (append-nil known.procs)
 
 module _ (all names : List (List ℕ)) (Free : List ℕ → Type 0) where
@@ -88,13 +86,10 @@ module _ (all names : List (List ℕ)) (Free : List ℕ → Type 0) where
   makes_free : (procs classes : List (List ℕ)) (form : Form) (words texts : List (List ℕ)) → Begins procs names → AreClear Free words
       → (row form).fewest ≤ length words → has_unknown (parts_from procs classes texts form 0 words) ≡ false
       → (name k : ℕ) (cells : List Operand) → said form (parts_from procs classes texts form 0 words) ≡ Does (commands.MakeFunc name k cells) → NameFree k
-  makes_free procs classes forms.MakeFunc [] texts begins clear enough there name k cells e = absurd (omega arith)
-  makes_free procs classes forms.MakeFunc (a ∷ []) texts begins clear enough there name k cells e = absurd (omega arith)
-  makes_free procs classes forms.MakeFunc (a ∷ b ∷ []) texts begins clear enough there name k cells e = absurd (omega arith)
-  makes_free procs classes forms.MakeFunc (a ∷ b ∷ c ∷ []) texts begins clear enough there name k cells e = absurd (omega arith)
   makes_free procs classes forms.MakeFunc (a ∷ b ∷ c ∷ d ∷ rest) texts begins clear enough there name k cells e =
       let same : count_or (Some (numbered (defined_number procs d))) ≡ k = cc in
       counted_free procs d k begins clear.1.1.1.0.itself (neither (is_unknown (numbered (defined_number procs d))) _ there).0 same
+  makes_free procs classes forms.MakeFunc xs texts begins clear enough there name k cells e = absurd (omega arith)
   makes_free procs classes form words texts begins clear enough there name k cells e = absurd (cc)
 
   legacy_of_none : (procs : List (List ℕ)) (m : Option (List ℕ)) (k : ℕ) → del_if (Some (legacy_of procs m)) ≡ Some k → ⊥
@@ -149,11 +144,9 @@ module _ (all names : List (List ℕ)) (Free : List ℕ → Type 0) where
       del_of s = None
 
       go : (ws : List (List ℕ)) → AreClear Free ws → del_of (said forms.Class (parts_from procs classes texts forms.Class 0 ws)) ≡ Some k → NameFree k
-      go [] clear h = absurd (cc)
-      go (a ∷ []) clear h = absurd (cc)
-      go (a ∷ b ∷ []) clear h = absurd (cc)
       go (a ∷ b ∷ d ∷ []) clear h = either (one_some _ None k h) (del_free procs d k begins clear.1.1.0) (λ none. absurd (cc))
       go (a ∷ b ∷ d ∷ f ∷ rest) clear h = either (one_some _ _ k h) (del_free procs d k begins clear.1.1.0) (del_free procs f k begins clear.1.1.1.0)
+      go xs clear h = absurd (cc)
   class_del procs classes form words texts begins clear c k e is = absurd (cc)
 
   class_legacy : (procs classes : List (List ℕ)) (form : Form) (words texts : List (List ℕ)) → Begins procs names → AreClear Free words
@@ -165,11 +158,9 @@ module _ (all names : List (List ℕ)) (Free : List ℕ → Type 0) where
       legacy_in s = None
 
       go : (ws : List (List ℕ)) → AreClear Free ws → legacy_in (said forms.Class (parts_from procs classes texts forms.Class 0 ws)) ≡ Some k → NameFree k
-      go [] clear h = absurd (cc)
-      go (a ∷ []) clear h = absurd (cc)
-      go (a ∷ b ∷ []) clear h = absurd (cc)
       go (a ∷ b ∷ d ∷ []) clear h = either (one_some _ None k h) (legacy_free procs d k begins clear.1.1.0) (λ none. absurd (cc))
       go (a ∷ b ∷ d ∷ f ∷ rest) clear h = either (one_some _ _ k h) (legacy_free procs d k begins clear.1.1.0) (legacy_free procs f k begins clear.1.1.1.0)
+      go xs clear h = absurd (cc)
   class_legacy procs classes form words texts begins clear c k e is = absurd (cc)
 
   pub line_fine : (known : Known) (form : Form) (words : List (List ℕ)) → Begins known.procs names → AreClear Free words → (row form).fewest ≤ length words

@@ -6,6 +6,7 @@ use Rattle.std.specs.Str.{bytes_eq}
 use Rattle.std.proofs.lemmas.Bool.Decides.{nat_tests}
 use Rattle.std.proofs.lemmas.List.Folds.{list_any-append, position_or_len_push}
 use Rattle.std.proofs.lemmas.Slice.Eq.{bytes_eq-Decides}
+use Rattle.std.proofs.lemmas.Bool.{not-true}
 use Rattle.cg_value.specs.Texts.{has_text, text_number, with_text}
 use Rattle.cg_script.specs.declared.item.Item.{Item}
 use Rattle.cg_script.specs.declared.command.Operand.{Operand}
@@ -71,17 +72,13 @@ no_some : {A : Type 0} (m : Option A) (b c : Bool) → (is_some m || b || c) ≡
 no_some None b c e = refl
 no_some (Some a) b c e = absurd (cc)
 
-not_true : (b : Bool) → not b ≡ true → b ≡ false
-not_true true e = absurd (cc)
-not_true false e = refl
-
 pub name_of_variable : (x : List ℕ) → is_variable x ≡ true → IsName x
 name_of_variable x e =
     let parts = both (is_identifier x) (not (is_reserved x)) e in
     let name = both (nat_le 1 (length x) && nat_le (length x) 32 && begins_name (slice_index x 0)) (list_all is_name_byte x) parts.0 in
     record {
       letter = (both (nat_le 1 (length x) && nat_le (length x) 32) (begins_name (slice_index x 0)) name.0).1;
-      no_atom = no_some (named atoms x) (reserves (named openers x)) (reserves (named bindings x)) (not_true (is_reserved x) parts.1);
+      no_atom = no_some (named atoms x) (reserves (named openers x)) (reserves (named bindings x)) (not-true (is_reserved x) parts.1);
     }
 
 pub no_comment : (b : ℕ) → begins_name b ≡ true → (b == 35) ≡ false
@@ -103,9 +100,8 @@ unnamed : (word : List ℕ) (found : Option Operand) → named atoms word ≡ fo
 unnamed word found e none value unquoted = by (is_some (named atoms word)) (is_quoted word) _ _ value (ap is_some e ∙ none) unquoted
   where
     by : (s q a rest : Bool) → cond s true (cond q a rest) ≡ true → s ≡ false → q ≡ false → rest ≡ true
-    by true q a rest h n u = absurd (cc)
-    by false true a rest h n u = absurd (cc)
     by false false a rest h n u = h
+    by b q a rest h n u = absurd (cc)
 
 -- the word of a value stands for what is read
 pub stands_for : (all texts : List (List ℕ)) (word : List ℕ) (found : Option Operand) → named atoms word ≡ found → is_value word ≡ true

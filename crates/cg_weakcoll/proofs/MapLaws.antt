@@ -13,7 +13,7 @@ use Rattle.cg_graph.specs.Value.{references_of_value, value_at}
 use Rattle.cg_graph.specs.Object.{Object, entries_of, first_place}
 use Rattle.cg_graph.proofs.Members.{either, Includes-append_cases, Includes-map}
 use Rattle.cg_machine.specs.declared.event.Event.TheVariants.{Made}
-use Rattle.cg_machine.specs.World.{World, Releasing, DyingPhase, Finalizer, AfterFinalizer, Clearing, Calling, AfterCall, LegacyFinalizer, AfterLegacy, Detaching, Emptying, opening, push, with_stack}
+use Rattle.cg_machine.specs.World.{World, Releasing, DyingPhase, Finalizer, Clearing, Calling, AfterCall, LegacyFinalizer, Detaching, Emptying, opening, push, with_stack}
 use Rattle.cg_machine.specs.Operands.{value_of}
 use Rattle.cg_machine.specs.Effects.{bound, given_up_by, with_new}
 use Rattle.cg_machine.specs.Commands.{DoesEffect}
@@ -106,14 +106,13 @@ one_under w map key m n a b =
 -- a dying object without a frame of its own is unheld and has no name
 frameless_unheld : (script : Script) (w : World) (o : ℕ) (phase : DyingPhase) → is_frameless phase ≡ true → Stands script w o phase → Unheld w o
 frameless_unheld script w o Finalizer e h = h
-frameless_unheld script w o AfterFinalizer e h = absurd (let no : false ≡ true = e in cc)
 frameless_unheld script w o (Clearing waiting) e h = h.0
 frameless_unheld script w o (Calling waiting) e h = h.0.unheld
 frameless_unheld script w o (AfterCall weak callback waiting) e h = h.1.unheld
 frameless_unheld script w o LegacyFinalizer e h = h.unheld
-frameless_unheld script w o AfterLegacy e h = absurd (let no : false ≡ true = e in cc)
 frameless_unheld script w o Detaching e h = h.0
 frameless_unheld script w o Emptying e h = h.unheld
+frameless_unheld script w o phase e h = absurd (let no : false ≡ true = e in cc)
 
 not_named : (script : Script) (w : World) (x n : ℕ) → Calm script w → IsFading w.stack n → value_of w (Name x) ≡ Some (Ref n) → ⊥
 not_named script w x n calm f named =

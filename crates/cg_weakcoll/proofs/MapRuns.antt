@@ -12,7 +12,7 @@ use Rattle.cg_script.specs.declared.Command.{Command}
 use Rattle.cg_script.specs.declared.Command.TheVariants.{Get, Deref}
 use Rattle.cg_graph.proofs.Members.{either}
 use Rattle.cg_machine.specs.declared.event.Event.{Event}
-use Rattle.cg_machine.specs.World.{World, Activity, TopLevel, Framed, Releasing, Dying, Collecting, ShuttingDown, Running, push, with_stack}
+use Rattle.cg_machine.specs.World.{World, Activity, TopLevel, Framed, Releasing, Running, push, with_stack}
 use Rattle.cg_machine.specs.Operands.{value_of}
 use Rattle.cg_laws.specs.Origins.{commands_on}
 use Rattle.cg_machine.specs.Effects.{bound, given_up_by}
@@ -40,10 +40,7 @@ bound_there (p ∷ names) (suc x) u v h = bound_there names x u v h
 weight_of_commands : (a : Activity) → commands_on a ≢ [] → weight a ≡ suc (length (commands_on a))
 weight_of_commands (TopLevel commands) some = refl
 weight_of_commands (Framed f) some = refl
-weight_of_commands (Releasing references) some = absurd (some refl)
-weight_of_commands (Dying d) some = absurd (some refl)
-weight_of_commands (Collecting c) some = absurd (some refl)
-weight_of_commands (ShuttingDown started) some = absurd (some refl)
+weight_of_commands a some = absurd (some refl)
 
 pub count_append : (xs ys : List Event) → count_by is_enter (xs ++ ys) ≡ count_by is_enter xs + count_by is_enter ys
 count_append xs ys = sum_by-append (λ e. cond (is_enter e) 1 0) xs ys

@@ -1,8 +1,9 @@
 -- A new object is held only by the name that it is bound to.
 use Rattle.std.proofs.Common.{◌≡◌, ◌≢◌, refl, sym, ◌∙◌, ap, subst, ℕ, zero, suc, ◌<◌, inl, List, [], ◌∷◌, ◌++◌, Option, Some, None, arith}
 use Rattle.std.specs.Prelude.{flat_map, slice_set}
+use Rattle.std.proofs.lemmas.Option.{same_Some}
 use Rattle.cg_value.specs.declared.KindCode.{KindCode}
-use Rattle.cg_value.specs.declared.KindCode.TheVariants.{List as ListKind, Tuple, Dict, Inst, Func, Weak}
+use Rattle.cg_value.specs.declared.KindCode.TheVariants.{List as ListKind, Inst}
 use Rattle.cg_value.specs.declared.Val.{Val}
 use Rattle.cg_value.specs.declared.Val.TheVariants.{Ref}
 use Rattle.cg_value.specs.declared.Entry.{Entry}
@@ -14,7 +15,7 @@ use Rattle.cg_graph.specs.Holdings.{entry_holdings, graph_of, name_holdings}
 use Rattle.cg_graph.specs.Value.{references, references_of_value}
 use Rattle.cg_graph.proofs.Members.{either, Includes-append_cases, Includes-append_left, Includes-append_right, Includes-map}
 use Rattle.cg_machine.specs.declared.event.FrameSort.{FrameSort}
-use Rattle.cg_machine.specs.declared.event.FrameSort.TheVariants.{Del, Legacy as LegacyFrame, Callback, Call as CallFrame}
+use Rattle.cg_machine.specs.declared.event.FrameSort.TheVariants.{Callback, Call as CallFrame}
 use Rattle.cg_machine.specs.World.{World, Activity, Framed, Frame, Releasing, push}
 use Rattle.cg_machine.specs.Holdings.{holdings, holds}
 use Rattle.cg_machine.specs.Effects.{bound, with_new}
@@ -23,7 +24,7 @@ use Rattle.cg_laws.proofs.Unreferred.{lives_within}
 use Rattle.cg_laws.proofs.Invariants.{Takes, on}
 use Rattle.cg_represents.proofs.Lists.{entry_held}
 use Rattle.cg_laws.specs.Apart.{IsFound}
-use Rattle.cg_weakcoll.proofs.HiddenObjects.{Hidden, held_by}
+use Rattle.cg_weakcoll.proofs.HiddenObjects.{Hidden, IsNoLocal, held_by}
 use Rattle.cg_weakcoll.proofs.HiddenObjectSteps.{changed_hidden, pushed, set_free, set_other, taken_locals}
 use Rattle.cg_weakcoll.proofs.KnownOfRuns.{Known}
 
@@ -33,7 +34,7 @@ pub record Unborn (o : ℕ) (w : World) : Type 0 where
   pub root : o ≢ 1
   pub entries : (x : Object) → Includes w.objects x → ¬ Includes (references x.entries) o
   pub referents : (x : Object) → Includes w.objects x → x.referent ≢ Some o
-  pub locals : (f : Frame) → Includes w.stack (Framed f) → (self_in f.sort f.subject ≢ Some o) × (weak_in f.sort f.subject ≢ Some o)
+  pub locals : (f : Frame) → Includes w.stack (Framed f) → IsNoLocal o f.sort f.subject
   pub absent : (x : Object) → Includes w.objects x → x.serial ≢ o
 
 -- the value of a name, among what names hold
@@ -65,27 +66,19 @@ module _ (script : Script) (budget : ℕ) (w : World) (k : Known script budget w
   pub member_below : (x : Object) → Includes w.objects x → x.serial < w.next_serial
   member_below x m = lives_below x.serial (Includes-map (λ (z : Object). z.serial) w.objects x m)
 
-  some_is : (m n : ℕ) → Some m ≡ Some n → m ≡ n
-  some_is m n e = cc
-
-  local_old : (f : Frame) (sort : FrameSort) → f.sort ≡ sort → Includes w.stack (Framed f) → (self_in sort f.subject ≢ Some w.next_serial) × (weak_in sort f.subject ≢ Some w.next_serial)
-  local_old f Del is m = (
-    λ e. let low = lives_below f.subject (k.lawful.orderly.locals f m (λ c. let no : Del ≡ CallFrame = sym is ∙ c in cc))
-        in let s = some_is f.subject w.next_serial e in omega (arith, low, s),
-    λ e. let no : None ≡ Some w.next_serial = e in cc,
-  )
-  local_old f LegacyFrame is m = (
-    λ e. let low = lives_below f.subject (k.lawful.orderly.locals f m (λ c. let no : LegacyFrame ≡ CallFrame = sym is ∙ c in cc))
-        in let s = some_is f.subject w.next_serial e in omega (arith, low, s),
-    λ e. let no : None ≡ Some w.next_serial = e in cc,
-  )
+  local_old : (f : Frame) (sort : FrameSort) → f.sort ≡ sort → Includes w.stack (Framed f) → IsNoLocal w.next_serial sort f.subject
   local_old f Callback is m = (
     λ e. let no : None ≡ Some w.next_serial = e in cc,
     λ e. let low = lives_below f.subject
-        (k.lawful.orderly.locals f m (λ c. let no : Callback ≡ CallFrame = sym is ∙ c in cc)) in let s = some_is f.subject w.next_serial e
+        (k.lawful.orderly.locals f m (λ c. let no : Callback ≡ CallFrame = sym is ∙ c in cc)) in let s = same_Some f.subject w.next_serial e
         in omega (arith, low, s),
   )
   local_old f CallFrame is m = (λ e. let no : None ≡ Some w.next_serial = e in cc, λ e. let no : None ≡ Some w.next_serial = e in cc)
+  local_old f sort is m = (
+    λ e. let low = lives_below f.subject (k.lawful.orderly.locals f m (λ c. let no : sort ≡ CallFrame = sym is ∙ c in cc))
+        in let s = same_Some f.subject w.next_serial e in omega (arith, low, s),
+    λ e. let no : None ≡ Some w.next_serial = e in cc,
+  )
 
   pub unborn : Unborn w.next_serial w
   unborn = record {
@@ -110,11 +103,7 @@ unborn_taken o command a b below v takes h = record {
 -- the new object is no instance
 first_apart : (kind : KindCode) → ¬ IsFound (first_place kind)
 first_apart ListKind f = f
-first_apart Tuple f = f
-first_apart Dict f = f
-first_apart Inst f = f
-first_apart Func f = f
-first_apart Weak f = f
+first_apart k f = f
 
 pub new_hidden : (n : ℕ) (u : World) (kind : KindCode) (class : Option ℕ) (entries : List Entry) (referent : Option ℕ) (given : List ℕ) → kind ≢ Inst
     → ¬ Includes (references entries) u.next_serial → referent ≢ Some u.next_serial → Unborn u.next_serial u

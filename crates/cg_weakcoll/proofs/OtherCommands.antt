@@ -1,9 +1,9 @@
 -- What a script with an exit finalizer may do elsewhere: frames of other procedures, commands of other lines.
-use Rattle.std.proofs.Common.{◌≡◌, ◌≢◌, refl, sym, ◌∙◌, ap, subst, ℕ, ◌-◌, Bool, true, false, inl, inr, ◌⊎◌, List, [], ◌∷◌, ◌++◌, Option, Some, None}
-use Rattle.std.specs.Prelude.{◌==◌, flat_map, if◌then◌else◌, option_and_then, slice_get, unwrap_or}
+use Rattle.std.proofs.Common.{◌≡◌, ◌≢◌, refl, sym, ◌∙◌, ap, subst, ℕ, ◌-◌, true, false, inl, inr, ◌⊎◌, List, [], ◌∷◌, ◌++◌, Option, Some, None}
+use Rattle.std.specs.Prelude.{flat_map, option_and_then, slice_get, unwrap_or}
 use Rattle.std.proofs.lemmas.Bool.{ne_eqb}
 use Rattle.cg_value.specs.declared.KindCode.{KindCode}
-use Rattle.cg_value.specs.declared.KindCode.TheVariants.{List as ListKind, Tuple, Dict, Inst, Func, Weak}
+use Rattle.cg_value.specs.declared.KindCode.TheVariants.{Func, Weak}
 use Rattle.cg_value.specs.declared.Val.TheVariants.{Ref}
 use Rattle.cg_script.specs.declared.Script.{Script}
 use Rattle.cg_script.specs.declared.ClassDef.{ClassDef}
@@ -14,13 +14,12 @@ use Rattle.cg_script.specs.Texts.{command_names}
 use Rattle.cg_graph.specs.Member.{Includes}
 use Rattle.cg_graph.specs.Object.{Object}
 use Rattle.cg_graph.specs.Value.{references}
-use Rattle.cg_graph.proofs.Members.{either, Includes-append_cases, Includes-append_left, Includes-append_right, Includes-map_cases}
+use Rattle.cg_graph.proofs.Members.{either, Includes-append_cases, Includes-append_right, Includes-map_cases}
 use Rattle.cg_machine.specs.declared.event.Event.{Event}
-use Rattle.cg_machine.specs.declared.event.Event.TheVariants.{BudgetSpent, Enter}
 use Rattle.cg_machine.specs.declared.event.FrameSort.{FrameSort}
 use Rattle.cg_machine.specs.declared.event.FrameSort.TheVariants.{Del as DelFrame, Legacy as LegacyFrame, Callback, Call as CallFrame}
-use Rattle.cg_machine.specs.Program.{body_of, class_number, classes}
-use Rattle.cg_machine.specs.World.{World, Activity, TopLevel, Framed, Releasing, Dying, Collecting, ShuttingDown, DyingPhase, Clearing, Calling, AfterCall, CollectPhase, WeakClearing, WeakCalling, AfterCallback, AfterRelease, BudgetIsSpent}
+use Rattle.cg_machine.specs.Program.{class_number, classes}
+use Rattle.cg_machine.specs.World.{World, Activity, TopLevel, Framed, Releasing, Dying, Collecting, ShuttingDown, DyingPhase, Clearing, Calling, AfterCall, CollectPhase, WeakClearing, WeakCalling, AfterCallback, AfterRelease}
 use Rattle.cg_machine.specs.Holdings.{collect_holds, dying_holds, holds}
 use Rattle.cg_machine.specs.Frame.{Yields, procedure_of, start_frame}
 use Rattle.cg_machine.specs.Weak.{callback_in, callback_of, is_function}
@@ -30,6 +29,8 @@ use Rattle.cg_laws.proofs.Invariants.{FromFrame, FromTop, Takes, emptied, on}
 use Rattle.cg_laws.proofs.Lookups.{at_member, callback_at, callback_first}
 use Rattle.cg_represents.proofs.Lists.{slice_get_member}
 use Rattle.cg_laws.proofs.ShapeLaws.{changes_leave}
+use Rattle.cg_laws.proofs.Starting.{begun_frame, call_frame, called_either}
+use Rattle.cg_laws.proofs.Unheld.{held_by_member}
 use Rattle.cg_weakcoll.specs.Exits.{AllOther, Exit, IsExit, IsOther, first_of, is_call, next_command}
 use Rattle.cg_weakcoll.proofs.ActivitySteps.{BegunBy, IsRaised, all_to_call, to_call, to_call_in}
 use Rattle.cg_weakcoll.proofs.CallbacksOnce.{lost_referent, to_call_of}
@@ -41,10 +42,8 @@ use Rattle.cg_weakcoll.proofs.KnownOfRuns.{Acted, Asked, Began, Bottomed, Change
 abbrev pub IsHigh : Exit → Activity → Type 0
 IsHigh e (TopLevel commands) = ⊥
 IsHigh e (Framed f) = AllOther e f.commands
-IsHigh e (Releasing references) = Unit {0}
-IsHigh e (Dying d) = Unit {0}
-IsHigh e (Collecting c) = Unit {0}
 IsHigh e (ShuttingDown started) = ⊥
+IsHigh e a = Unit {0}
 
 abbrev pub AllHigh : Exit → List Activity → Type 0
 AllHigh e stack = (a : Activity) → Includes stack a → IsHigh e a
@@ -55,9 +54,6 @@ AreHidden e w = (x : Object) → Includes w.objects x → x.code ≡ Func → x.
 
 -- a weak reference to be called back is held
 to_call_held : (a : Activity) (n : ℕ) → Includes (to_call a) n → Includes (holds a) n
-to_call_held (TopLevel commands) n m = absurd m
-to_call_held (Framed f) n m = absurd m
-to_call_held (Releasing references) n m = absurd m
 to_call_held (Dying d) n m = by_phase d.phase m
   where
     by_phase : (phase : DyingPhase) → Includes (death_waits phase) n → Includes (dying_holds d.object phase) n
@@ -73,32 +69,20 @@ to_call_held (Collecting c) n m = by_phase c.phase m
     by_phase (AfterCallback weak waiting) i = inr i
     by_phase (AfterRelease weak waiting) i = i
     by_phase phase i = absurd i
-to_call_held (ShuttingDown started) n m = absurd m
-
-held_in : (stack : List Activity) (a : Activity) (n : ℕ) → Includes stack a → Includes (holds a) n → Includes (flat_map holds stack) n
-held_in [] a n m h = absurd m
-held_in (b ∷ stack) a n (inl i) h = Includes-append_left (holds b) (flat_map holds stack) n (subst (λ (c : Activity). Includes (holds c) n) (sym i) h)
-held_in (b ∷ stack) a n (inr m) h = Includes-append_right (holds b) (flat_map holds stack) n (held_in stack a n m h)
+to_call_held a n m = absurd m
 
 -- so it lives
 pub to_call_lives : (script : Script) (budget : ℕ) (w : World) (n : ℕ) → Known script budget w → Includes (all_to_call w.stack) n → (x : Object) × Includes w.objects x × (x.serial ≡ n)
 to_call_lives script budget w n k m =
     let a = to_call_of w.stack n m in
-    Includes-map_cases (λ (z : Object). z.serial) w.objects n (k.lawful.orderly.held_live n (Includes-append_right _ (flat_map holds w.stack) n (held_in w.stack a.0 n a.1 (to_call_held a.0 n a.2))))
+    Includes-map_cases (λ (z : Object). z.serial) w.objects n (k.lawful.orderly.held_live n (Includes-append_right _ (flat_map holds w.stack) n (held_by_member w.stack a.0 n a.1 (to_call_held a.0 n a.2))))
 
 pub function_code : (x : Object) → is_function x ≡ true → x.code ≡ Func
 function_code x t = go x.code refl
   where
     go : (k : KindCode) → x.code ≡ k → x.code ≡ Func
     go Func c = c
-    go ListKind c = absurd (let no : is_function x ≡ false = cc in let bad : true ≡ false = sym t ∙ no in cc)
-    go Tuple c = absurd (let no : is_function x ≡ false = cc in let bad : true ≡ false = sym t ∙ no in cc)
-    go Dict c = absurd (let no : is_function x ≡ false = cc in let bad : true ≡ false = sym t ∙ no in cc)
-    go Inst c = absurd (let no : is_function x ≡ false = cc in let bad : true ≡ false = sym t ∙ no in cc)
-    go Weak c = absurd (let no : is_function x ≡ false = cc in let bad : true ≡ false = sym t ∙ no in cc)
-
-some_same : (m n : ℕ) → Some m ≡ Some n → m ≡ n
-some_same m n e = cc
+    go k c = absurd (let no : is_function x ≡ false = cc in let bad : true ≡ false = sym t ∙ no in cc)
 
 module _ (script : Script) (budget : ℕ) (e : Exit) (ex : IsExit script e) where
   -- a function that is not hidden has another procedure
@@ -110,21 +94,14 @@ module _ (script : Script) (budget : ℕ) (e : Exit) (ex : IsExit script e) wher
       k.fit.sound.rises m) ∙ ap (λ c. unwrap_or c 0) q.1 in
       shown (hidden z m code (q.1 ∙ ap (λ p. Some p) (sym at ∙ is)))
 
-  del_other : (m : Option ℕ) (p : ℕ) → option_and_then (λ (c : ClassDef). c.del) (option_and_then (λ c. slice_get (classes script.items) c) m) ≡ Some p → p ≢ e.proc
-  del_other None p is same = let no : None ≡ Some p = is in cc
-  del_other (Some n) p is same = go (slice_get (classes script.items) n) refl is
+  class_other : (pick : ClassDef → Option ℕ) → ((c : ClassDef) → Includes (classes script.items) c → pick c ≢ Some e.proc) → (m : Option ℕ) (p : ℕ)
+      → option_and_then pick (option_and_then (λ c. slice_get (classes script.items) c) m) ≡ Some p → p ≢ e.proc
+  class_other pick apart None p is same = let no : None ≡ Some p = is in cc
+  class_other pick apart (Some n) p is same = go (slice_get (classes script.items) n) refl is
     where
-      go : (c : Option ClassDef) → slice_get (classes script.items) n ≡ c → option_and_then (λ (x : ClassDef). x.del) c ≡ Some p → ⊥
+      go : (c : Option ClassDef) → slice_get (classes script.items) n ≡ c → option_and_then pick c ≡ Some p → ⊥
       go None at i = let no : None ≡ Some p = i in cc
-      go (Some c) at i = (ex.classes_other c (slice_get_member (classes script.items) n c at)).0 (i ∙ ap (λ q. Some q) same)
-
-  legacy_other : (m : Option ℕ) (p : ℕ) → option_and_then (λ (c : ClassDef). c.legacy) (option_and_then (λ c. slice_get (classes script.items) c) m) ≡ Some p → p ≢ e.proc
-  legacy_other None p is same = let no : None ≡ Some p = is in cc
-  legacy_other (Some n) p is same = go (slice_get (classes script.items) n) refl is
-    where
-      go : (c : Option ClassDef) → slice_get (classes script.items) n ≡ c → option_and_then (λ (x : ClassDef). x.legacy) c ≡ Some p → ⊥
-      go None at i = let no : None ≡ Some p = i in cc
-      go (Some c) at i = (ex.classes_other c (slice_get_member (classes script.items) n c at)).1 (i ∙ ap (λ q. Some q) same)
+      go (Some c) at i = apart c (slice_get_member (classes script.items) n c at) (i ∙ ap (λ q. Some q) same)
 
   callback_other : (w : World) (weak p : ℕ) → Known script budget w → AreHidden e w → Includes (all_to_call w.stack) weak → p ≡ procedure_of w (unwrap_or (callback_of w.objects weak) 0) → p ≢ e.proc
   callback_other w weak p k hidden waits is same =
@@ -143,18 +120,16 @@ module _ (script : Script) (budget : ℕ) (e : Exit) (ex : IsExit script e) wher
 
   -- so the machine starts frames of other procedures only
   begun_other : (w : World) (sort : FrameSort) (subject p : ℕ) → Known script budget w → AreHidden e w → BegunBy script w sort subject p → p ≢ e.proc
-  begun_other w DelFrame subject p k hidden by = del_other (class_number by.0.code by.0.class) p by.3
-  begun_other w LegacyFrame subject p k hidden by = legacy_other (class_number by.0.code by.0.class) p by.3
+  begun_other w DelFrame subject p k hidden by = class_other (λ (c : ClassDef). c.del) (λ c m. (ex.classes_other c m).0) (class_number by.0.code by.0.class) p by.3
+  begun_other w LegacyFrame subject p k hidden by = class_other (λ (c : ClassDef). c.legacy) (λ c m. (ex.classes_other c m).1) (class_number by.0.code by.0.class) p by.3
   begun_other w Callback subject p k hidden by = callback_other w subject p k hidden by.0 by.1
   begun_other w CallFrame subject p k hidden by = absurd by
 
   pub raised_high : (w : World) (a : Activity) → Known script budget w → AreHidden e w → IsRaised script w a → IsHigh e a
   raised_high w (TopLevel commands) k hidden r = r
   raised_high w (Framed f) k hidden r = subst (AllOther e) (sym r.commands) (ex.bodies_other r.proc (begun_other w f.sort f.subject r.proc k hidden r.by))
-  raised_high w (Releasing references) k hidden r = tt
-  raised_high w (Dying d) k hidden r = tt
-  raised_high w (Collecting c) k hidden r = tt
   raised_high w (ShuttingDown started) k hidden r = r
+  raised_high w a k hidden r = tt
 
   -- a command that does not use the name of the procedure's function leaves the stack alone
   pub data DoneStack (b : Activity) (below stack : List Activity) : Type 0 where
@@ -165,26 +140,9 @@ module _ (script : Script) (budget : ℕ) (e : Exit) (ex : IsExit script e) wher
   one_high a h b (inl i) = subst (IsHigh e) i h
   one_high a h b (inr none) = absurd none
 
-  pub call_stack : (f p : ℕ) (u : World) (events : List Event) (after : World) → Yields (start_frame script (record { sort = CallFrame; proc = p; subject = f; func = Some f }) u) events after
-      → (after.stack ≡ u.stack) ⊎ (after.stack ≡ Framed (record { sort = CallFrame; subject = f; function = Some f; commands = body_of script p }) ∷ u.stack)
-  call_stack f p u events after step = go (u.budget == 0) step
-    where
-      go : (b : Bool) → Yields (if b then (BudgetSpent ∷ [], record u { outcome = BudgetIsSpent })
-          else (
-            Enter CallFrame f ∷ [],
-            record u {
-              budget = u.budget - 1;
-              stack = Framed (record {
-                sort = CallFrame;
-                subject = f;
-                function = Some f;
-                commands = body_of script p;
-              }) ∷ u.stack;
-            },
-          )) events after
-          → (after.stack ≡ u.stack) ⊎ (after.stack ≡ Framed (record { sort = CallFrame; subject = f; function = Some f; commands = body_of script p }) ∷ u.stack)
-      go true y = inl (ap (λ (z : World). z.stack) y.1)
-      go false y = inr (ap (λ (z : World). z.stack) y.1)
+  pub call_stack : (f : ℕ) (u : World) (events : List Event) (after : World) → Yields (start_frame script (call_frame u f) u) events after
+      → (after.stack ≡ u.stack) ⊎ (after.stack ≡ begun_frame script (call_frame u f) ∷ u.stack)
+  call_stack f u events after step = called_either (λ lines w. (w.stack ≡ u.stack) ⊎ (w.stack ≡ begun_frame script (call_frame u f) ∷ u.stack)) script u f events after step (inl refl) (inr refl)
 
   pub done_stack : (command : Command) (a b : Activity) (below : List Activity) (v : World) (events : List Event) (after : World) → Takes command a b
       → Known script budget (on a below v) → AreHidden e (on a below v) → ¬ Includes (command_names command) e.exit
@@ -197,7 +155,7 @@ module _ (script : Script) (budget : ℕ) (e : Exit) (ex : IsExit script e) wher
   done_stack command a b below v events after takes k hidden spoken (Began f has step) =
       let shown : Hidden e.exit f.serial (on a below v) → ⊥ = λ h. hand_not e.exit f.serial (on b below v) (taken_hidden e.exit f.serial command a b below v
       takes h) command (Ref f.serial) spoken has.hand refl in
-      either (call_stack f.serial (procedure_of (on b below v) f.serial) (on b below v) events after step) (λ s. GoesOn [] s (λ c m. absurd m))
+      either (call_stack f.serial (on b below v) events after step) (λ s. GoesOn [] s (λ c m. absurd m))
       (λ s. GoesOn (Framed _ ∷ []) s (one_high (Framed _) (ex.bodies_other (procedure_of (on b below v) f.serial) (other_proc (on a below v) f k hidden has.member has.passes shown))))
   done_stack command a b below v events after takes k hidden spoken (Asked g none is) = GoesOn (new_collection g true (on b below v) ∷ [])
       (ap (λ (z : World). z.stack) is) (one_high (new_collection g true (on b below v)) tt)
@@ -217,10 +175,8 @@ module _ (script : Script) (budget : ℕ) (e : Exit) (ex : IsExit script e) wher
   pub high_call : (a : Activity) (below : List Activity) → IsHigh e a → is_call e.function (next_command (a ∷ below)) ≡ false
   high_call (TopLevel commands) below h = absurd h
   high_call (Framed f) below h = others_call f.commands h
-  high_call (Releasing references) below h = refl
-  high_call (Dying d) below h = refl
-  high_call (Collecting c) below h = refl
   high_call (ShuttingDown started) below h = absurd h
+  high_call a below h = refl
 
   -- a step with such an activity on top
   pub record HighStep (below stack : List Activity) : Type 0 where
@@ -235,10 +191,8 @@ module _ (script : Script) (budget : ℕ) (e : Exit) (ex : IsExit script e) wher
   emptied_high : (a : Activity) → IsHigh e a → IsHigh e (emptied a)
   emptied_high (TopLevel commands) h = absurd h
   emptied_high (Framed f) h = λ c m. absurd m
-  emptied_high (Releasing references) h = tt
-  emptied_high (Dying d) h = tt
-  emptied_high (Collecting c) h = tt
   emptied_high (ShuttingDown started) h = absurd h
+  emptied_high a h = tt
 
   appended_high : (tops : List Activity) (a : Activity) → AllHigh e tops → IsHigh e a → AllHigh e (tops ++ a ∷ [])
   appended_high tops a h k c m = either (Includes-append_cases tops (a ∷ []) c m) (h c) (one_high a k c)

@@ -4,7 +4,7 @@ use Rattle.std.specs.Prelude.{if◌then◌else◌, nat_le, nat_lt, ok_or}
 use Rattle.cg_value.specs.declared.KindCode.{KindCode}
 use Rattle.cg_value.specs.declared.KindCode.TheVariants.{Func, Weak}
 use Rattle.cg_value.specs.declared.Val.{Val}
-use Rattle.cg_value.specs.declared.Val.TheVariants.{None as Nothing, Int, Str, Ref}
+use Rattle.cg_value.specs.declared.Val.TheVariants.{None as Nothing, Ref}
 use Rattle.cg_value.specs.declared.Entry.{Entry}
 use Rattle.cg_script.specs.declared.Script.{Script}
 use Rattle.cg_script.specs.declared.Command.TheVariants.{Call, Del, Deref, MakeFunc, MakeRef, Quit}
@@ -66,9 +66,7 @@ module _ (script : Script) (u : World) (events : List Event) (after : World) whe
 
   quitted : (v : Val) → DoesEffect script u (Ok (elim v [ Nothing ↦ Quits | _ ↦ Changes false [] [] u ])) events after → Quitted v
   quitted Nothing step = step
-  quitted (Int i) step = either step (λ y. y) (λ k. absurd (let no : false ≡ true = k.0 in cc))
-  quitted (Str i) step = either step (λ y. y) (λ k. absurd (let no : false ≡ true = k.0 in cc))
-  quitted (Ref i) step = either step (λ y. y) (λ k. absurd (let no : false ≡ true = k.0 in cc))
+  quitted v step = either step (λ y. y) (λ k. absurd (let no : false ≡ true = k.0 in cc))
 
   pub quit_step : (operand : Operand) → CommandStep script u (Quit operand) events after → IsRefused ⊎ ((v : Val) × (value_of u operand ≡ Some v) × Quitted v)
   quit_step operand step = either (asks (value_of u operand) no_name _ step) (λ r. inl r) (λ k. inr (k.0, k.1, quitted k.0 k.2))
@@ -135,14 +133,13 @@ module _ (script : Script) (u : World) (events : List Event) (after : World) whe
       ⊎ ((entries : List Entry) × ((entries ≡ []) ⊎ (entries ≡ item f ∷ [])) × DoesEffect script u (k entries) events after)
   unfolding ◌>>=◌
   called_back Nothing k step = inr ([], inl refl, step)
-  called_back (Int i) k step = inl (not_callable, step)
-  called_back (Str i) k step = inl (not_callable, step)
   called_back (Ref i) k step = go (object u is_function not_callable (Ref i)) step
     where
       go : (r : Result Object ℕ) → DoesEffect script u ((r >>= λ x. Ok (item (Ref i) ∷ [])) >>= k) events after → IsRefused
           ⊎ ((entries : List Entry) × ((entries ≡ []) ⊎ (entries ≡ item (Ref i) ∷ [])) × DoesEffect script u (k entries) events after)
       go (Ok x) s = inr (item (Ref i) ∷ [], inr refl, s)
       go (Err n) s = inl (n, s)
+  called_back v k step = inl (not_callable, step)
 
   pub ref_step : (name : ℕ) (target callback : Operand) → CommandStep script u (MakeRef name target callback) events after → IsRefused ⊎ IsRef name target callback
   ref_step name target callback step = either (asks (value_of u target) no_name _ step) (λ r. inl r) (λ v. either (asks (value_of u callback) no_name _ v.2)

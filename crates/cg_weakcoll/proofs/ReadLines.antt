@@ -98,10 +98,7 @@ module _ (known : Known) (number : ℕ) (lines texts : List (List ℕ)) (saids :
     where
       go : (a b c d : Bool) → AreGood (cond a (bad 1) (cond b (bad 5) (cond c (bad 3) (cond d (bad 4) (says form words))))) → AreGood (says form words) × (d ≡ false)
       go false false false false k = (k, refl)
-      go true b c d k = absurd (cc)
-      go false true c d k = absurd (cc)
-      go false false true d k = absurd (cc)
-      go false false false true k = absurd (cc)
+      go bit b c d k = absurd (cc)
 
 -- declarations are outside procedures, and `end` is inside one
 abbrev pub AreNested : Bool → List Said → Type 0
@@ -148,25 +145,19 @@ body_all (c ∷ commands) later = ap (λ l. c ∷ l) (body_all commands later)
 module _ (commands : List Command) (later : List Said) where
   more_said : (s : Said) (inside : Bool) (saids : List Said) → is_placed s inside ≡ true → Stands (inside_behind s inside) saids commands → Stands inside (s ∷ saids) commands
   more_said (Does c) true saids p (InOpen i front back e) = InOpen refl (c ∷ front) back (ap (λ l. c ∷ l) e)
-  more_said (Does c) false saids p (InOpen i front back e) = absurd (let no : false ≡ true = i in cc)
   more_said (Does c) true saids p (InItems t) = InItems t
   more_said (Does c) false saids p (InItems t) = InItems (more_items (variants.Run c) (items_of false saids) commands t)
-  more_said (Declares item) true saids p s = absurd (let no : false ≡ true = p in cc)
-  more_said (Declares item) false saids p (InOpen i front back e) = absurd (let no : false ≡ true = i in cc)
   more_said (Declares item) false saids p (InItems t) = InItems (more_items item (items_of false saids) commands t)
-  more_said (Begins name) true saids p s = absurd (let no : false ≡ true = p in cc)
   more_said (Begins name) false saids p (InOpen i front back e) = InItems (InProcedure (record { name = name; body = body_of saids }) front back (inl refl) e)
+  more_said other false saids p (InOpen i front back e) = absurd (let no : false ≡ true = i in cc)
   more_said (Begins name) false saids p (InItems t) = InItems (more_items (variants.Def (record { name = name; body = body_of saids })) (items_of true saids) commands t)
   more_said Ends true saids p (InOpen i front back e) = absurd (let no : false ≡ true = i in cc)
   more_said Ends true saids p (InItems t) = InItems t
-  more_said Ends false saids p s = absurd (let no : false ≡ true = p in cc)
-
-  here : (inside : Bool) → Stands inside (does_all commands ++ later) commands
-  here true = InOpen refl [] (body_of later) (body_all commands later)
-  here false = InItems (Outside [] (commands_of (items_of false later)) (run_all commands later))
+  more_said shape b saids p s = absurd (let no : false ≡ true = p in cc)
 
   stand_on : (before : List Said) (inside : Bool) → AreNested inside (before ++ (does_all commands ++ later)) → Stands inside (before ++ (does_all commands ++ later)) commands
-  stand_on [] inside n = here inside
+  stand_on [] true n = InOpen refl [] (body_of later) (body_all commands later)
+  stand_on [] false n = InItems (Outside [] (commands_of (items_of false later)) (run_all commands later))
   stand_on (s ∷ before) inside n = more_said s inside (before ++ (does_all commands ++ later)) n.0 (stand_on before (inside_behind s inside) n.1)
 
   outside_stand : (saids : List Said) → Stands false saids commands → StandTogether (items_of false saids) commands

@@ -1,7 +1,6 @@
 -- After a step, a dying weak reference is still dying or freed.
 use Rattle.std.proofs.Common.{◌≡◌, refl, sym, ap, subst, ℕ, ◌-◌, Bool, true, false, inl, inr, ◌⊎◌, List, [], ◌∷◌, ◌++◌, Option, Some, None}
-use Rattle.std.specs.Prelude.{◌==◌, if◌then◌else◌, is_some, slice_get, option_and_then, unwrap_or}
-use Rattle.cg_value.specs.declared.Entry.{Entry}
+use Rattle.std.specs.Prelude.{if◌then◌else◌, is_some, slice_get, option_and_then, unwrap_or}
 use Rattle.cg_value.specs.declared.KindCode.TheVariants.{Weak}
 use Rattle.cg_script.specs.declared.Script.{Script}
 use Rattle.cg_graph.specs.Member.{Includes}
@@ -9,18 +8,18 @@ use Rattle.cg_graph.specs.Value.{entry_references, last_entry}
 use Rattle.cg_graph.specs.Object.{Object, object_at, entries_of, serials, with_entries}
 use Rattle.cg_graph.proofs.Members.{Includes-append_right}
 use Rattle.cg_machine.specs.declared.event.Event.{Event}
-use Rattle.cg_machine.specs.declared.event.Event.TheVariants.{BudgetSpent, Enter}
 use Rattle.cg_machine.specs.declared.event.FrameSort.TheVariants.{Callback}
 use Rattle.cg_machine.specs.declared.event.FrameSpec.{FrameSpec}
-use Rattle.cg_machine.specs.Program.{body_of, class_number, classes, finalizer_of, legacy_of}
-use Rattle.cg_machine.specs.World.{World, Activity, BudgetIsSpent, Framed, Releasing, Dying, Death, DyingPhase, Finalizer, AfterFinalizer, Clearing, Calling, AfterCall, LegacyFinalizer, AfterLegacy, Detaching, Emptying, with_change}
-use Rattle.cg_machine.specs.Frame.{Transition, procedure_of}
+use Rattle.cg_machine.specs.Program.{class_number, classes, finalizer_of, legacy_of}
+use Rattle.cg_machine.specs.World.{World, Activity, Releasing, Dying, Death, DyingPhase, Finalizer, Clearing, Calling, AfterCall, LegacyFinalizer, Detaching, Emptying, with_change, BudgetIsSpent}
+use Rattle.cg_machine.specs.Frame.{procedure_of}
 use Rattle.cg_machine.specs.Weak.{has_weak_references, weak_references_if, callback_of}
 use Rattle.cg_machine.specs.Dying.{death_at, has_finalizers, finalizer_to_run, run_finalizer, run_legacy, clear_one, call_one, detach_one, empty_one, dying}
 use Rattle.cg_machine.specs.Run.{Step, StepOf}
 use Rattle.cg_represents.proofs.Lists.{found_at}
 use Rattle.cg_laws.proofs.LeftBelowRuns.{LeavesUnder}
 use Rattle.cg_laws.proofs.LinesNameLive.{without_gone}
+use Rattle.cg_laws.proofs.Starting.{starts_either, begun_frame, list_either, option_either}
 use Rattle.cg_weakcoll.proofs.ReferentsLost.{IsFading, is_frameless}
 
 -- A weak reference has no finalizer: its death goes on until it is freed.
@@ -55,22 +54,6 @@ none_legacy script objects n weak = go (object_at objects n) refl
 abbrev pub FadesOrGoes : ℕ → World → Type 0
 FadesOrGoes n after = IsFading after.stack n ⊎ (¬ Includes (serials after.objects) n)
 
--- a frame starts, by whether the budget is spent
-abbrev start_with : Script → FrameSpec → World → Bool → Transition
-start_with script spec u b = if b then (BudgetSpent ∷ [], record u { outcome = BudgetIsSpent }) else (
-  Enter spec.sort spec.subject ∷ [],
-  record u {
-    budget = u.budget - 1;
-    stack = Framed (record {
-      sort = spec.sort;
-      subject = spec.subject;
-      function = spec.func;
-      commands = body_of script
-          spec.proc;
-    }) ∷ u.stack;
-  },
-)
-
 module _ (script : Script) (o : ℕ) (below : List Activity) (w : World) (weak : IsWeak w.objects o) where
   on_top : (phase : DyingPhase) (after : World) (st : List Activity) → is_frameless phase ≡ true → after.stack ≡ Dying (record { object = o; phase = phase }) ∷ st → FadesOrGoes o after
   on_top phase after st e is =
@@ -93,49 +76,30 @@ module _ (script : Script) (o : ℕ) (below : List Activity) (w : World) (weak :
         frameless = e;
       })
 
-  clearing_fades : (waiting weaks : List ℕ) → FadesOrGoes o (clear_one o waiting below w weaks).1
-  clearing_fades waiting [] = on_top (Calling waiting) (clear_one o waiting below w []).1 below refl refl
-  clearing_fades waiting (x ∷ weaks) = on_top (Clearing (waiting ++ (if is_some (callback_of w.objects x) then x ∷ [] else []))) (clear_one o waiting below w (x ∷ weaks)).1 below refl refl
-
-  calling_fades : (waiting : List ℕ) → FadesOrGoes o (call_one script o below w waiting).1
-  calling_fades [] = on_top LegacyFinalizer (call_one script o below w []).1 below refl refl
-  calling_fades (x ∷ waiting) = go (w.budget == 0)
-    where
-      callback : ℕ
-      callback = unwrap_or (callback_of w.objects x) 0
-
-      u : World
-      u = death_at o (AfterCall x callback waiting) below (with_change (with_entries []) x w)
-
-      go : (b : Bool) → FadesOrGoes o (start_with script (record { sort = Callback; proc = procedure_of w callback; subject = x; func = Some callback }) u b).1
-      go true = on_top (AfterCall x callback waiting) (start_with script (record { sort = Callback; proc = procedure_of w callback; subject = x; func = Some callback }) u true).1 below refl refl
-      go false = under_one (AfterCall x callback waiting) (start_with script (record {
-        sort = Callback;
-        proc = procedure_of w callback;
-        subject = x;
-        func = Some callback;
-      }) u false).1 _ below refl refl
-
-  detaching_fades : (weaks : List ℕ) → FadesOrGoes o (detach_one o below w weaks).1
-  detaching_fades [] = on_top Emptying (detach_one o below w []).1 below refl refl
-  detaching_fades (x ∷ weaks) = on_top Detaching (detach_one o below w (x ∷ weaks)).1 below refl refl
-
-  emptying_fades : (m : Option Entry) → FadesOrGoes o (empty_one o below w m).1
-  emptying_fades None = inr (without_gone o w.objects)
-  emptying_fades (Some entry) = under_one Emptying (empty_one o below w (Some entry)).1 (Releasing (entry_references entry)) below refl refl
-
   dying_fades : (phase : DyingPhase) → is_frameless phase ≡ true → FadesOrGoes o (dying script o phase below w).1
   dying_fades Finalizer e = subst (λ m. FadesOrGoes o (run_finalizer script o below w m).1) (sym (none_to_run script w.objects o weak))
       (on_top (Clearing []) (run_finalizer script o below w None).1 below refl refl)
-  dying_fades AfterFinalizer e = absurd (let no : false ≡ true = e in cc)
-  dying_fades (Clearing waiting) e = clearing_fades waiting (weak_references_if has_weak_references w.objects o)
-  dying_fades (Calling waiting) e = calling_fades waiting
+  dying_fades (Clearing waiting) e = list_either (λ lines. FadesOrGoes o) (clear_one o waiting below w) (weak_references_if has_weak_references w.objects o)
+      (λ e. on_top (Calling waiting) (clear_one o waiting below w []).1 below refl refl)
+      (λ x weaks e. on_top (Clearing (waiting ++ (if is_some (callback_of w.objects x) then x ∷ [] else []))) (clear_one o waiting below w (x ∷ weaks)).1 below refl refl)
+  dying_fades (Calling []) e = on_top LegacyFinalizer (call_one script o below w []).1 below refl refl
+  dying_fades (Calling (x ∷ waiting)) e =
+      let callback = unwrap_or (callback_of w.objects x) 0 in
+      let phase = AfterCall x callback waiting in
+      let spec : FrameSpec = record { sort = Callback; proc = procedure_of w callback; subject = x; func = Some callback } in
+      let u : World = death_at o phase below (with_change (with_entries []) x w) in
+      starts_either (λ lines. FadesOrGoes o) script spec u (on_top phase (record u { outcome = BudgetIsSpent }) below refl refl)
+      (λ some. under_one phase (record u { budget = u.budget - 1; stack = begun_frame script spec ∷ u.stack }) (begun_frame script spec) below refl refl)
   dying_fades (AfterCall x callback waiting) e = under_one (Calling waiting) (dying script o (AfterCall x callback waiting) below w).1 (Releasing (callback ∷ x ∷ [])) below refl refl
   dying_fades LegacyFinalizer e = subst (λ m. FadesOrGoes o (run_legacy script o below w m).1) (sym (none_legacy script w.objects o weak))
       (on_top Detaching (run_legacy script o below w None).1 below refl refl)
-  dying_fades AfterLegacy e = absurd (let no : false ≡ true = e in cc)
-  dying_fades Detaching e = detaching_fades (weak_references_if (has_finalizers script) w.objects o)
-  dying_fades Emptying e = emptying_fades (last_entry (entries_of w.objects o))
+  dying_fades Detaching e = list_either (λ lines. FadesOrGoes o) (detach_one o below w) (weak_references_if (has_finalizers script) w.objects o)
+      (λ e. on_top Emptying (detach_one o below w []).1 below refl refl)
+      (λ x weaks e. on_top Detaching (detach_one o below w (x ∷ weaks)).1 below refl refl)
+  dying_fades Emptying e = option_either (λ lines. FadesOrGoes o) (empty_one o below w) (last_entry (entries_of w.objects o))
+      (λ e. inr (without_gone o w.objects))
+      (λ entry e. under_one Emptying (empty_one o below w (Some entry)).1 (Releasing (entry_references entry)) below refl refl)
+  dying_fades phase e = absurd (let no : false ≡ true = e in cc)
 
 module _ (script : Script) (w : World) (events : List Event) (after : World) (n : ℕ) (weak : IsWeak w.objects n) where
   on_stack : (stack : List Activity) → StepOf script w stack events after → LeavesUnder w stack after → (d : Death) → Includes stack (Dying d) → d.object ≡ n

@@ -20,11 +20,11 @@ use Rattle.cg_machine.specs.declared.event.FrameSort.TheVariants.{Call as CallFr
 use Rattle.cg_machine.specs.World.{World, Activity, TopLevel, Framed, Dying, Collecting, ShuttingDown, Releasing, Numbers, Ended, push, with_change}
 use Rattle.cg_machine.specs.Operands.{is_dict}
 use Rattle.cg_machine.specs.Frame.{procedure_of}
-use Rattle.cg_machine.specs.Effects.{Effect, Changes, Calls, Collects, Quits, Explains, bound, frozen, given_up_by, live, may_track, replaced, tracked_by, unfrozen, with_new}
+use Rattle.cg_machine.specs.Effects.{Effect, Changes, bound, frozen, given_up_by, live, may_track, replaced, tracked_by, unfrozen, with_new}
 use Rattle.cg_machine.specs.Commands.{new_collection}
 use Rattle.cg_machine.specs.Run.{StepTaken, Step, Run, events_of, last_world}
 use Rattle.cg_represents.proofs.Inspecting.{TellsThere}
-use Rattle.cg_represents.proofs.Shapes.{Shape, Binds, Makes, Edits, Puts, Shows, Tells, Stays, Sets, Freezes, Unfreezes, StartsFrame, StartsCollection, Ends, Inspects, AsksWhy, TellsNumbers}
+use Rattle.cg_represents.proofs.Shapes.{Shape, Binds, Makes, Edits, Puts, Shows, Tells, Stays, Sets, Freezes, Unfreezes, Inspects, TellsNumbers}
 use Rattle.cg_laws.proofs.Invariants.{AreAnswers, AreLast, CommandSteps, Steps, any_step, emptied, on}
 use Rattle.cg_laws.proofs.LinesNameLive.{HasNoReferent}
 use Rattle.cg_laws.proofs.Advancing.{frame_end_advances, released_advances, dying_advances, phase_advances}
@@ -38,10 +38,7 @@ use Rattle.cg_weakcoll.proofs.ReferentsLostDeaths.{IsWeak, step_fades}
 
 abbrev DoesGo : World → Effect → Type 0
 DoesGo w (Changes wants_memory lines given_up after) = LosesReferents w.objects w.next_serial lines after
-DoesGo w (Calls f) = Unit {0}
-DoesGo w (Collects g) = Unit {0}
-DoesGo w (Explains o) = Unit {0}
-DoesGo w Quits = Unit {0}
+DoesGo w effect = Unit {0}
 
 numbers_other : (line : Event) → TellsNumbers line → IsOther line
 numbers_other (RefCount n) k = tt
@@ -66,9 +63,6 @@ module _ (w : World) where
 
   prints : (lines : List Event) → ClearNone lines → LosesReferents w.objects w.next_serial lines w
   prints lines none = steady w.objects w.next_serial lines w none (same_waned Never w.objects)
-
-  sets : (o : ℕ) (entries : List Entry) → LosesReferents w.objects w.next_serial [] (with_change (with_entries entries) o w)
-  sets o entries = steady w.objects w.next_serial [] (with_change (with_entries entries) o w) none_cleared (entries_waned entries o w.objects)
 
   places : (f : Place → Place) (numbers : Numbers) → LosesReferents w.objects w.next_serial [] (record w { objects = replaced f w; numbers = numbers })
   places f numbers = steady w.objects w.next_serial [] (record w { objects = replaced f w; numbers = numbers }) none_cleared
@@ -99,7 +93,7 @@ module _ (w : World) where
   shape_goes : (command : Command) (e : Effect) → Shape w command e → DoesGo w e
   shape_goes command e (Binds name v own hand) = same _ _
   shape_goes command e (Makes name kind class entries referent own parts) = makes name kind class entries referent
-  shape_goes command e (Edits wants x entries given h mutable edit) = sets x.serial entries
+  shape_goes command e (Edits wants x entries given h mutable edit) = steady w.objects w.next_serial [] (with_change (with_entries entries) x.serial w) none_cleared (entries_waned entries x.serial w.objects)
   shape_goes command e (Puts x key v h mutable hand_key hand room) = puts x key v
   shape_goes command e (Shows v hand) = prints (Value v ∷ []) (other_line (Value v) tt)
   shape_goes command e (Tells line tells) = prints (line ∷ []) (other_line line (numbers_other line tells))
@@ -107,11 +101,8 @@ module _ (w : World) where
   shape_goes command e (Sets numbers own keeps) = same _ _
   shape_goes command e (Freezes is) = places frozen _
   shape_goes command e (Unfreezes is) = places unfrozen _
-  shape_goes command e (StartsFrame f h) = tt
-  shape_goes command e (StartsCollection g low) = tt
-  shape_goes command e Ends = tt
   shape_goes command e (Inspects lines calm there) = prints lines (λ n m. there_other (Cleared n) (there (Cleared n) m))
-  shape_goes command e (AsksWhy x h calm) = tt
+  shape_goes command e shape = tt
 
 abbrev pub StepGoes : World → List Event → World → Type 0
 StepGoes w events after = LosesReferents w.objects w.next_serial events after
@@ -154,9 +145,7 @@ module _ (script : Script) (below : List Activity) (v : World) where
 
 last_none : (w : World) (a : Activity) (lines : List Event) → AreLast w a lines → ClearNone lines
 last_none w (TopLevel []) lines e = subst ClearNone (sym e) (other_line End tt)
-last_none w (TopLevel (command ∷ commands)) lines e = absurd e
 last_none w (ShuttingDown true) lines e = subst ClearNone (sym e) (others_more (Left (live w)) (End ∷ []) tt (other_line End tt))
-last_none w (ShuttingDown false) lines e = absurd e
 last_none w a lines e = absurd e
 
 goes_steps : (script : Script) → Steps script (λ w. Unit {0}) StepGoes

@@ -141,9 +141,7 @@ plain_parts word e = go (nat_le 1 (length word)) (list_all (λ b. nat_le 33 b &&
   where
     go : (a b c : Bool) → (a && b && not c) ≡ true → (a ≡ true) × (b ≡ true) × (c ≡ false)
     go true true false h = (refl, refl, refl)
-    go false b c h = absurd (cc)
-    go true false c h = absurd (cc)
-    go true true true h = absurd (cc)
+    go bit b c h = absurd (cc)
 
 pub plain_sound : (word : List ℕ) → is_plain word ≡ true → IsSound word
 plain_sound word e = let p = plain_parts word e in let some : nat_le 1 (length word) ≡ true = p.0 in (grind (arith, nat_tests), graphic_by word p.1)

@@ -2,13 +2,13 @@
 use Rattle.std.proofs.Common.{◌≡◌, refl, sym, ◌∙◌, ap, subst, ℕ, Bool, true, false, inl, inr, List, [], ◌∷◌, Option, Some, None, Result, Ok, Err}
 use Rattle.std.specs.Prelude.{if◌then◌else◌, ok_or, option_map, unwrap_or}
 use Rattle.cg_value.specs.declared.Val.{Val}
-use Rattle.cg_value.specs.declared.Val.TheVariants.{None as Nothing, Int, Str, Ref}
+use Rattle.cg_value.specs.declared.Val.TheVariants.{None as Nothing, Ref}
 use Rattle.cg_value.specs.declared.Entry.{Entry}
 use Rattle.cg_value.specs.declared.KindCode.{KindCode}
-use Rattle.cg_value.specs.declared.KindCode.TheVariants.{List as ListKind, Tuple, Dict, Inst, Func, Weak}
+use Rattle.cg_value.specs.declared.KindCode.TheVariants.{Weak}
 use Rattle.cg_script.specs.declared.Script.{Script}
 use Rattle.cg_script.specs.declared.Operand.{Operand}
-use Rattle.cg_script.specs.declared.Operand.TheVariants.{None as NoneWord, Int as IntWord, Str as StrWord, Name, SelfLocal, WeakLocal, Cell, Garbage}
+use Rattle.cg_script.specs.declared.Operand.TheVariants.{None as NoneWord}
 use Rattle.cg_script.specs.declared.Command.{Command}
 use Rattle.cg_script.specs.declared.Command.TheVariants.{MakeRef, Bind, Get, Deref}
 use Rattle.cg_graph.specs.Member.{Includes}
@@ -16,7 +16,7 @@ use Rattle.cg_graph.specs.Value.{value_at}
 use Rattle.cg_graph.specs.Object.{Object, entries_of, object_at}
 use Rattle.cg_machine.specs.declared.event.Event.{Event}
 use Rattle.cg_machine.specs.declared.event.Event.TheVariants.{Made, Refused}
-use Rattle.cg_machine.specs.World.{World, Activity, TopLevel, Framed, Releasing, Dying, Collecting, ShuttingDown, Frame, push, with_stack}
+use Rattle.cg_machine.specs.World.{World, Activity, TopLevel, Framed, Releasing, Frame, push, with_stack}
 use Rattle.cg_machine.specs.Operands.{is_weak, object, object_of, tested, value_of}
 use Rattle.cg_laws.specs.Origins.{commands_on}
 use Rattle.cg_machine.specs.Refusals.{◌>>=◌, no_memory, no_name}
@@ -66,24 +66,12 @@ pub record Done (script : Script) (w : World) (command : Command) (left : List C
 top_values : (cs ds : List Command) (below : List Activity) (w : World) (operand : Operand) → value_of (with_stack (TopLevel cs ∷ below) w) operand
     ≡ value_of (with_stack (TopLevel ds ∷ below) w) operand
 top_values cs ds below w NoneWord = refl
-top_values cs ds below w (IntWord n) = refl
-top_values cs ds below w (StrWord s) = refl
-top_values cs ds below w (Name x) = refl
-top_values cs ds below w SelfLocal = refl
-top_values cs ds below w WeakLocal = refl
-top_values cs ds below w (Cell i) = refl
-top_values cs ds below w Garbage = refl
+top_values cs ds below w other = refl
 
 frame_values : (f : Frame) (cs : List Command) (below : List Activity) (w : World) (operand : Operand)
     → value_of (with_stack (Framed (record f { commands = cs }) ∷ below) w) operand ≡ value_of (with_stack (Framed f ∷ below) w) operand
 frame_values f cs below w NoneWord = refl
-frame_values f cs below w (IntWord n) = refl
-frame_values f cs below w (StrWord s) = refl
-frame_values f cs below w (Name x) = refl
-frame_values f cs below w SelfLocal = refl
-frame_values f cs below w WeakLocal = refl
-frame_values f cs below w (Cell i) = refl
-frame_values f cs below w Garbage = refl
+frame_values f cs below w other = refl
 
 module _ (script : Script) (w : World) (command : Command) (left : List Command) (below : List Activity) (step : StepTaken) where
   same_world : (a : Activity) → w.stack ≡ a ∷ below → with_stack (a ∷ below) w ≡ w
@@ -110,10 +98,7 @@ module _ (script : Script) (w : World) (command : Command) (left : List Command)
             ∙ ap (λ (z : World). value_of z operand) (same_world (Framed f) e);
         does = does;
       }
-  by_top (Releasing references) e c d s = absurd (let no : [] ≡ command ∷ left = c in cc)
-  by_top (Dying death) e c d s = absurd (let no : [] ≡ command ∷ left = c in cc)
-  by_top (Collecting collection) e c d s = absurd (let no : [] ≡ command ∷ left = c in cc)
-  by_top (ShuttingDown started) e c d s = absurd (let no : [] ≡ command ∷ left = c in cc)
+  by_top a e c d s = absurd (let no : [] ≡ command ∷ left = c in cc)
 
   pub taken : (top : Activity) → w.stack ≡ top ∷ below → commands_on top ≡ command ∷ left → due w ≡ None → Step script w step.events step.world → Took script w command left below step
   taken top stack commands not_due s = by_top top stack commands not_due (subst (λ (st : List Activity). StepOf script w st step.events step.world) stack s.step)
@@ -151,10 +136,8 @@ pub record IsObject (w : World) (v : Val) (x : Object) : Type 0 where
   pub at : object_at w.objects serial ≡ Some x
 
 refers : (w : World) (v : Val) (x : Object) → object_of w v ≡ Some x → IsObject w v x
-refers w Nothing x h = absurd (let no : None ≡ Some x = h in cc)
-refers w (Int n) x h = absurd (let no : None ≡ Some x = h in cc)
-refers w (Str s) x h = absurd (let no : None ≡ Some x = h in cc)
 refers w (Ref o) x h = record { serial = o; value = refl; at = h }
+refers w v x h = absurd (let no : None ≡ Some x = h in cc)
 
 ok_object : (w : World) (test : Object → Bool) (n : ℕ) (v : Val) (x : Object) → object w test n v ≡ Ok x → IsObject w v x × (test x ≡ true)
 ok_object w test n v x h =
@@ -215,11 +198,7 @@ get_refused script u x map key events after n does m = go (effect u (Get x map k
 
 weak_code : (k : KindCode) → elim k [ Weak ↦ true | _ ↦ false ] ≡ true → k ≡ Weak
 weak_code Weak e = refl
-weak_code ListKind e = absurd (let no : false ≡ true = e in cc)
-weak_code Tuple e = absurd (let no : false ≡ true = e in cc)
-weak_code Dict e = absurd (let no : false ≡ true = e in cc)
-weak_code Inst e = absurd (let no : false ≡ true = e in cc)
-weak_code Func e = absurd (let no : false ≡ true = e in cc)
+weak_code k e = absurd (let no : false ≡ true = e in cc)
 
 -- `x = deref w`
 pub record Derefs (u : World) (x : ℕ) (word : Operand) (e : Effect) : Type 0 where

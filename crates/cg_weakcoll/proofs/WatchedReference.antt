@@ -3,8 +3,9 @@ use Rattle.std.proofs.Common.{◌≡◌, refl, sym, ◌∙◌, ap, subst, ℕ, �
 use Rattle.std.specs.Prelude.{◌==◌, count_by, flat_map, option_and_then, slice_get}
 use Rattle.std.proofs.lemmas.Bool.{eq-eqb, eqb-true}
 use Rattle.std.proofs.lemmas.List.Sums.{sum_by-cons}
+use Rattle.std.proofs.lemmas.Option.{same_Some}
 use Rattle.cg_value.specs.declared.Place.{Place}
-use Rattle.cg_value.specs.declared.Place.TheVariants.{Untracked, Gen, Frozen, Cand, Seen, Back, Legacy, Pend}
+use Rattle.cg_value.specs.declared.Place.TheVariants.{Cand, Seen, Legacy}
 use Rattle.cg_value.specs.declared.Val.{Val}
 use Rattle.cg_value.specs.declared.Val.TheVariants.{None as Nothing, Ref}
 use Rattle.cg_script.specs.declared.Script.{Script}
@@ -18,8 +19,7 @@ use Rattle.cg_graph.specs.Value.{references_of_value}
 use Rattle.cg_graph.proofs.Members.{either, Includes-append_left}
 use Rattle.cg_machine.specs.declared.event.Event.{Event}
 use Rattle.cg_machine.specs.declared.event.Event.TheVariants.{Enter}
-use Rattle.cg_machine.specs.declared.event.FrameSort.{FrameSort}
-use Rattle.cg_machine.specs.declared.event.FrameSort.TheVariants.{Del as DelFrame, Legacy as LegacyFrame, Callback, Call as CallFrame}
+use Rattle.cg_machine.specs.declared.event.FrameSort.TheVariants.{Callback}
 use Rattle.cg_machine.specs.World.{World, TopLevel}
 use Rattle.cg_machine.specs.Holdings.{holdings, holds}
 use Rattle.cg_machine.specs.Collect.{is_condemned}
@@ -79,14 +79,9 @@ count_cases s (x ∷ events) = go x (count_cases s events)
     callback n true t rest = inr (inl (ap (λ i. Enter Callback i) (eqb-true n s t)))
     callback n false t rest = other (Enter Callback n) t rest
 
-    enter : (sort : FrameSort) (n : ℕ) → (callbacks s events ≡ 0) ⊎ Includes events (Enter Callback s) → (callbacks s (Enter sort n ∷ events) ≡ 0) ⊎ Includes (Enter sort n ∷ events) (Enter Callback s)
-    enter Callback n rest = callback n (n == s) refl rest
-    enter DelFrame n rest = other (Enter DelFrame n) refl rest
-    enter LegacyFrame n rest = other (Enter LegacyFrame n) refl rest
-    enter CallFrame n rest = other (Enter CallFrame n) refl rest
-
     go : (y : Event) → (callbacks s events ≡ 0) ⊎ Includes events (Enter Callback s) → (callbacks s (y ∷ events) ≡ 0) ⊎ Includes (y ∷ events) (Enter Callback s)
-    go (Enter sort n) rest = enter sort n rest
+    go (Enter Callback n) rest = callback n (n == s) refl rest
+    go (Enter sort n) rest = other (Enter sort n) refl rest
     go y rest = other y refl rest
 
 pub none_counted : (s : ℕ) (events : List Event) → ¬ Includes events (Enter Callback s) → callbacks s events ≡ 0
@@ -103,11 +98,7 @@ condemned_found z t = go z.place refl
     go Cand e = subst IsFound (sym e) tt
     go Seen e = subst IsFound (sym e) tt
     go Legacy e = subst IsFound (sym e) tt
-    go Untracked e = absurd (let no : is_condemned z ≡ false = cc in let bad : true ≡ false = sym t ∙ no in cc)
-    go (Gen i) e = absurd (let no : is_condemned z ≡ false = cc in let bad : true ≡ false = sym t ∙ no in cc)
-    go Frozen e = absurd (let no : is_condemned z ≡ false = cc in let bad : true ≡ false = sym t ∙ no in cc)
-    go Back e = absurd (let no : is_condemned z ≡ false = cc in let bad : true ≡ false = sym t ∙ no in cc)
-    go Pend e = absurd (let no : is_condemned z ≡ false = cc in let bad : true ≡ false = sym t ∙ no in cc)
+    go p e = absurd (let no : is_condemned z ≡ false = cc in let bad : true ≡ false = sym t ∙ no in cc)
 
 -- a name holds its value
 pub named_held : (names : List (Option Val)) (x r : ℕ) → slice_get names x ≡ Some (Some (Ref r)) → Includes (held_by names x) r
@@ -137,11 +128,8 @@ module _ (script : Script) (budget : ℕ) (e : Exit) (s n : ℕ) (w : World) (ev
       later x y l (inl none) = inl (none_later x y l none)
       later x y l (inr some) = either l.referent (λ same. inr (same ∙ some)) (λ none. inl none)
 
-      some_is : (p q : ℕ) → Some p ≡ Some q → p ≡ q
-      some_is p q i = cc
-
       lost : Loses w s → ⊥
-      lost l = either (h.refers l.object l.member l.same) (λ none. let no : None ≡ Some l.referent = sym none ∙ l.refers in cc) (λ some. go (some_is l.referent r (sym l.refers ∙ some)))
+      lost l = either (h.refers l.object l.member l.same) (λ none. let no : None ≡ Some l.referent = sym none ∙ l.refers in cc) (λ some. go (same_Some l.referent r (sym l.refers ∙ some)))
         where
           held_at : Includes (holdings w) r
           held_at = Includes-append_left (name_holdings w.names ++ (1 ∷ []) ++ _) (flat_map holds w.stack) r (Includes-append_left (name_holdings w.names

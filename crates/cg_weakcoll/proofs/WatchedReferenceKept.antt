@@ -2,7 +2,7 @@
 use Rattle.std.proofs.Common.{◌≡◌, refl, sym, ◌∙◌, ap, subst, ℕ, zero, suc, ◌+◌, true, false, inl, inr, ◌⊎◌, List, [], ◌∷◌, ◌++◌, Option, Some, None, arith}
 use Rattle.std.specs.Prelude.{count_by, option_and_then, slice_get, slice_set}
 use Rattle.cg_value.specs.declared.Val.{Val}
-use Rattle.cg_value.specs.declared.Val.TheVariants.{None as Nothing, Int, Str, Ref}
+use Rattle.cg_value.specs.declared.Val.TheVariants.{Ref}
 use Rattle.cg_script.specs.declared.Script.{Script}
 use Rattle.cg_script.specs.declared.Command.{Command}
 use Rattle.cg_script.specs.declared.Command.TheVariants.{Call, Del, Deref}
@@ -16,7 +16,6 @@ use Rattle.cg_machine.specs.declared.event.Event.{Event}
 use Rattle.cg_machine.specs.declared.event.Event.TheVariants.{Enter}
 use Rattle.cg_machine.specs.declared.event.FrameSort.TheVariants.{Callback}
 use Rattle.cg_machine.specs.World.{World, Activity, TopLevel, Framed, Releasing, ShuttingDown, Frame, Ended, push, with_stack}
-use Rattle.cg_machine.specs.Frame.{procedure_of}
 use Rattle.cg_machine.specs.Effects.{bound, given_up_by}
 use Rattle.cg_machine.specs.Commands.{CommandStep, new_collection}
 use Rattle.cg_laws.specs.Laws.{is_enter}
@@ -35,11 +34,11 @@ use Rattle.cg_weakcoll.proofs.CallbacksOnce.{Spent, Tells, begun_spent, lost_ref
 use Rattle.cg_weakcoll.proofs.OwnCommands.{IsDeref, del_step, deref_step, referent_value}
 use Rattle.cg_weakcoll.proofs.HiddenObjects.{Hidden, held_by}
 use Rattle.cg_weakcoll.proofs.HiddenObjectSteps.{acted_hidden, done_hidden, pushed, restacked, set_free, taken_hidden}
-use Rattle.cg_weakcoll.proofs.ExitStages.{After, AtCall, AtDeref, AtObject, AtQuit, AtWatch, Before, During, IsTail, Stage, counted, frame_is, heads, high_tame, top_is}
+use Rattle.cg_weakcoll.proofs.ExitStages.{After, AtCall, AtDeref, AtWatch, Before, During, IsTail, Stage, counted, frame_is, heads, high_tame, top_is}
 use Rattle.cg_weakcoll.proofs.ExitStageSteps.{step_calls, tame_call, top_call}
 use Rattle.cg_weakcoll.proofs.OtherCommands.{call_stack, high_call, same_top}
 use Rattle.cg_weakcoll.proofs.WeakReferenceSteps.{went_tells}
-use Rattle.cg_weakcoll.proofs.WatchedReference.{Standing, StandsCall, StandsDeref, StandsObject, StandsQuit, StandsWatch, Watching, callbacks, count_cases, none_counted, one_counted}
+use Rattle.cg_weakcoll.proofs.WatchedReference.{Standing, StandsCall, Watching, callbacks, count_cases, none_counted, one_counted}
 use Rattle.cg_weakcoll.proofs.KnownOfRuns.{Acted, Asked, Began, Bottomed, Changed, Commanded, Done, Due, GaveUp, Known, Lasted, Over, Stood, Stopped, Went, exactly}
 
 -- what a taken command may do to the weak reference's name
@@ -50,28 +49,17 @@ pub data Minds (e : Exit) (command : Command) : Type 0 where
 
 -- a dropped name stands for nothing new
 dropped : (names : List (Option Val)) (name x q : ℕ) → Includes (held_by (slice_set names name None) x) q → Includes (held_by names x) q
-dropped [] name x q m = m
 dropped (u ∷ names) zero zero q m = absurd m
-dropped (u ∷ names) zero (suc x) q m = m
-dropped (u ∷ names) (suc name) zero q m = m
 dropped (u ∷ names) (suc name) (suc x) q m = dropped names name x q m
+dropped xs name x q m = m
 
 pub object_there : (u : World) (v : Val) (x : Object) → object_of u v ≡ Some x → Includes u.objects x
 object_there u (Ref q) x at = (found_at u.objects q x at).0
-object_there u Nothing x at = absurd (cc)
-object_there u (Int i) x at = absurd (cc)
-object_there u (Str i) x at = absurd (cc)
+object_there u v x at = absurd (cc)
 
 module _ (script : Script) (budget : ℕ) (e : Exit) (ex : IsExit script e) where
   other_minds : (c : Command) → IsOther e c → Minds e c
   other_minds c h = Quiet (λ m. h.names e.watch m (inr (inr (inr (inl refl)))))
-
-  tail_minds : (fs cs : List Command) (c : Command) → IsTail e fs → fs ≡ c ∷ cs → Minds e c
-  tail_minds fs cs c AtDeref is = DerefIt (sym (heads _ c _ cs is).0)
-  tail_minds fs cs c AtQuit is = subst (Minds e) (heads _ c _ cs is).0 (Quiet (λ m. either m (λ i. ex.watch_object (sym i)) (λ none. none)))
-  tail_minds fs cs c AtWatch is = DelIt (sym (heads _ c _ cs is).0)
-  tail_minds fs cs c AtObject is = subst (Minds e) (heads _ c _ cs is).0 (Quiet (λ m. either m (λ i. ex.watch_object (sym i)) (λ none. none)))
-  tail_minds fs cs c AtCall is = subst (Minds e) (heads _ c _ cs is).0 (Quiet (λ m. either m (λ i. ex.watch_function (sym i)) (λ none. none)))
 
   tame_minds : (c : Command) (a b : Activity) → Takes c a b → AllOther e (commands_on a) → Minds e c
   tame_minds c a b (FromTop commands) h = other_minds c (h c (inl refl))
@@ -87,7 +75,10 @@ module _ (script : Script) (budget : ℕ) (e : Exit) (ex : IsExit script e) wher
 
   frame_minds : (f : Frame) (c : Command) (a b : Activity) → Takes c a b → Framed f ≡ a → IsTail e f.commands → Minds e c
   frame_minds f c a b (FromTop commands) is t = absurd (cc)
-  frame_minds f c a b (FromFrame g commands left) is t = tail_minds f.commands commands c t (ap (λ (q : Frame). q.commands) (frame_is f g is) ∙ left)
+  frame_minds f c a b (FromFrame g commands left) is AtDeref = DerefIt (sym (heads _ c _ commands (ap (λ (q : Frame). q.commands) (frame_is f g is) ∙ left)).0)
+  frame_minds f c a b (FromFrame g commands left) is AtWatch = DelIt (sym (heads _ c _ commands (ap (λ (q : Frame). q.commands) (frame_is f g is) ∙ left)).0)
+  frame_minds f c a b (FromFrame g commands left) is AtCall = subst (Minds e) (heads _ c _ commands (ap (λ (q : Frame). q.commands) (frame_is f g is) ∙ left)).0 (Quiet (λ m. either m (λ i. ex.watch_function (sym i)) (λ none. none)))
+  frame_minds f c a b (FromFrame g commands left) is t = subst (Minds e) (heads _ c _ commands (ap (λ (q : Frame). q.commands) (frame_is f g is) ∙ left)).0 (Quiet (λ m. either m (λ i. ex.watch_object (sym i)) (λ none. none)))
 
   minded : (Q : List Command → Type 0) (calls : ℕ) (stack : List Activity) (c : Command) (a b : Activity) (below : List Activity) → Stage script e Q calls stack
       → ((cs : List Command) → Includes stack (TopLevel cs) → (d : Command) → Includes cs d → IsOther e d ⊎ (d ≡ Call (Name e.exit))) → stack ≡ a ∷ below
@@ -107,11 +98,8 @@ module _ (script : Script) (budget : ℕ) (e : Exit) (ex : IsExit script e) wher
 
   -- it is spent before the last command
   at_call : (s n : ℕ) (w : World) (fs : List Command) → fs ≡ Call (Name e.function) ∷ [] → Standing e s n w fs → (n ≡ 0) × Spent s w
-  at_call s n w fs is StandsDeref = absurd (cc)
-  at_call s n w fs is (StandsQuit h) = absurd (cc)
-  at_call s n w fs is (StandsWatch r h) = absurd (cc)
-  at_call s n w fs is (StandsObject r h unnamed) = absurd (cc)
   at_call s n w fs is (StandsCall quiet spent) = (quiet, spent)
+  at_call s n w fs is other = absurd (cc)
 
   -- where a call counts
   counts : (s n calls : ℕ) (w : World) → Stage script e (Standing e s n w) calls w.stack → (is_call e.function (next_command w.stack) ≡ false) ⊎ ((n ≡ 0) × Spent s w)
@@ -124,11 +112,8 @@ module _ (script : Script) (budget : ℕ) (e : Exit) (ex : IsExit script e) wher
       first fs i no_call = ap (λ st. is_call e.function (next_command st)) is ∙ ap (λ xs. is_call e.function (first_of xs)) i ∙ no_call
 
       go : (fs : List Command) → f.commands ≡ fs → IsTail e fs → Standing e s n w fs → (is_call e.function (next_command w.stack) ≡ false) ⊎ ((n ≡ 0) × Spent s w)
-      go fs i AtDeref st = inl (first fs i refl)
-      go fs i AtQuit st = inl (first fs i refl)
-      go fs i AtWatch st = inl (first fs i refl)
-      go fs i AtObject st = inl (first fs i refl)
       go fs i AtCall st = inr (at_call s n w _ refl st)
+      go fs i other st = inl (first fs i refl)
   counts s n calls w (During (t ∷ tops) f commands is high tail other q none) = inl (ap (λ st. is_call e.function (next_command st)) is
       ∙ high_call script budget e ex t (tops ++ Framed f ∷ TopLevel commands ∷ []) (high t (inl refl)))
   counts s n calls w (After tame few) = inl (tame_call script budget e ex (λ cs. Unit {0}) tt w.stack tame)
@@ -275,8 +260,7 @@ module _ (script : Script) (budget : ℕ) (e : Exit) (ex : IsExit script e) wher
         done command a b below v top takes hb (Changed wants given next is shape) = either (subst (λ (z : World). Includes z.stack (TopLevel cs)) is m)
             (λ j. cc) (λ j. turned command a b below top takes (subst (λ st. Includes st (TopLevel cs)) (changes_leave (on b below v) command wants events given
             next shape).stack j))
-        done command a b below v top takes hb (Began f has y) = either (call_stack script budget e ex f.serial (procedure_of (on b below v) f.serial)
-            (on b below v) events after y) (λ st. turned command a b below top takes (subst (λ z. Includes z (TopLevel cs)) st m))
+        done command a b below v top takes hb (Began f has y) = either (call_stack script budget e ex f.serial (on b below v) events after y) (λ st. turned command a b below top takes (subst (λ z. Includes z (TopLevel cs)) st m))
             (λ st. either (subst (λ z. Includes z (TopLevel cs)) st m) (λ j. cc) (λ j. turned command a b below top takes j))
         done command a b below v top takes hb (Asked g none is) = either (subst (λ (z : World). Includes z.stack (TopLevel cs)) is m) (λ j. cc) (λ j. turned command a b below top takes j)
 

@@ -3,9 +3,8 @@ use Rattle.std.proofs.Common.{◌≡◌, ◌≢◌, refl, sym, ◌∙◌, ap, su
 use Rattle.std.specs.Prelude.{◌==◌, flat_map, option_and_then, slice_get, slice_set}
 use Rattle.std.specs.List.{list_any}
 use Rattle.std.proofs.lemmas.Bool.{eq-eqb, eqb-true}
+use Rattle.std.proofs.lemmas.Option.{same_Some}
 use Rattle.cg_value.specs.declared.KindCode.TheVariants.{Func, Weak}
-use Rattle.cg_value.specs.declared.Place.{Place}
-use Rattle.cg_value.specs.declared.Place.TheVariants.{Cand, Seen, Legacy}
 use Rattle.cg_value.specs.declared.Val.{Val}
 use Rattle.cg_value.specs.declared.Val.TheVariants.{None as Nothing, Int, Str, Ref}
 use Rattle.cg_script.specs.declared.Script.{Script}
@@ -19,18 +18,17 @@ use Rattle.cg_graph.specs.Value.{references_of_value}
 use Rattle.cg_graph.proofs.Members.{either, Includes-append_cases, Includes-map}
 use Rattle.cg_machine.specs.declared.event.Event.{Event}
 use Rattle.cg_machine.specs.declared.event.FrameSort.{FrameSort}
-use Rattle.cg_machine.specs.declared.event.FrameSort.TheVariants.{Del as DelFrame, Legacy as LegacyFrame, Callback, Call as CallFrame}
-use Rattle.cg_machine.specs.World.{World, Activity, TopLevel, Framed, Releasing, Frame, push, with_stack}
+use Rattle.cg_machine.specs.declared.event.FrameSort.TheVariants.{Call as CallFrame}
+use Rattle.cg_machine.specs.World.{World, Activity, TopLevel, Framed, Frame, push, with_stack}
 use Rattle.cg_machine.specs.Holdings.{call_holds, holds, is_collection, is_death_of}
-use Rattle.cg_machine.specs.Effects.{bound, given_up_by}
 use Rattle.cg_machine.specs.Commands.{CommandStep, new_collection}
-use Rattle.cg_laws.specs.Laws.{IsOfCollection}
 use Rattle.cg_machine.specs.Operands.{object_of, value_of}
 use Rattle.cg_machine.specs.Run.{Step}
 use Rattle.cg_laws.proofs.Invariants.{FromFrame, on}
 use Rattle.cg_represents.proofs.Lists.{found_at}
 use Rattle.cg_laws.proofs.Lookups.{same_object}
 use Rattle.cg_laws.specs.Apart.{IsFound}
+use Rattle.cg_laws.proofs.SetsApart.{found_apart}
 use Rattle.cg_promises.proofs.HoldersMove.{IsFree}
 use Rattle.cg_weakcoll.specs.Exits.{Exit, IsExit}
 use Rattle.cg_weakcoll.proofs.ActivitySteps.{all_to_call}
@@ -38,7 +36,7 @@ use Rattle.cg_weakcoll.proofs.ExitNamesKept.{set_away, set_got}
 use Rattle.cg_weakcoll.proofs.CallbacksOnce.{Spent, Tells, spent_stays}
 use Rattle.cg_weakcoll.proofs.OwnCommands.{IsDeref, IsRefused, Quitted, del_step, deref_step, quit_step, referent_value}
 use Rattle.cg_weakcoll.proofs.HiddenObjects.{held_by}
-use Rattle.cg_weakcoll.proofs.ExitStages.{AtCall, AtDeref, AtObject, AtQuit, AtWatch, IsTail, heads}
+use Rattle.cg_weakcoll.proofs.ExitStages.{AtDeref, IsTail, heads}
 use Rattle.cg_weakcoll.proofs.ExitStageSteps.{Advances}
 use Rattle.cg_weakcoll.proofs.OtherCommands.{function_code}
 use Rattle.cg_weakcoll.proofs.WatchedReference.{Held, Standing, StandsCall, StandsDeref, StandsObject, StandsQuit, StandsWatch, Watching, callbacks, none_counted}
@@ -84,26 +82,13 @@ module _ (script : Script) (budget : ℕ) (e : Exit) (ex : IsExit script e) (s n
 
     -- no collection is under way
     apart_now : (z : Object) → Includes w.objects z → ¬ IsFound z.place
-    apart_now z m found = k.apart.clear (ap (λ st. list_any is_collection st) top) z m (of_collection z.place found)
-      where
-        of_collection : (p : Place) → IsFound p → IsOfCollection p
-        of_collection Cand i = tt
-        of_collection Seen i = tt
-        of_collection Legacy i = tt
-        of_collection p i = absurd i
+    apart_now z m found = k.apart.clear (ap (λ st. list_any is_collection st) top) z m (found_apart z.place found)
 
     -- the weak reference has lost its name, so it is cleared
     unnamed_spent : ¬ Includes (held_by w.names e.watch) s → Spent s w
     unnamed_spent unnamed = record { made = h.made; unreferred = λ x m i. go x m i x.referent refl; uncalled = nothing_to_call }
       where
         not_function : (x : Object) → Includes w.objects x → x.serial ≡ s → (r : ℕ) → x.referent ≡ Some r → (g : Option ℕ) → f.function ≡ g → (sort : FrameSort) → ¬ Includes (call_holds sort g) s
-        not_function x m i r some None is DelFrame j = j
-        not_function x m i r some None is LegacyFrame j = j
-        not_function x m i r some None is Callback j = j
-        not_function x m i r some None is CallFrame j = j
-        not_function x m i r some (Some g) is DelFrame j = j
-        not_function x m i r some (Some g) is LegacyFrame j = j
-        not_function x m i r some (Some g) is Callback j = j
         not_function x m i r some (Some g) is CallFrame j = either j
             (λ same.
             let z = k.lawful.locals.functions f (subst (λ st. Includes st (Framed f)) (sym top) (inl refl)) g is in
@@ -112,6 +97,8 @@ module _ (script : Script) (budget : ℕ) (e : Exit) (ex : IsExit script e) (s n
             let weak = (k.lawful.orderly.referents x m r some).0 in
             let no : Func ≡ Weak = sym func ∙ ap (λ (q : Object). q.code) both ∙ weak in cc)
             (λ none. none)
+        not_function x m i r some None is CallFrame j = j
+        not_function x m i r some found is sort j = j
 
         go : (x : Object) → Includes w.objects x → x.serial ≡ s → (r : Option ℕ) → x.referent ≡ r → x.referent ≡ None
         go x m i None none = none
@@ -178,10 +165,7 @@ module _ (script : Script) (budget : ℕ) (e : Exit) (ex : IsExit script e) (s n
       where
         go : (xs : List Command) → IsTail e xs → xs ≡ [] → ⊥
         go xs AtDeref j = cc
-        go xs AtQuit j = cc
-        go xs AtWatch j = cc
-        go xs AtObject j = cc
-        go xs AtCall j = cc
+        go xs other j = cc
 
     -- otherwise the frame would have stopped
     stopped : after.stack ≡ Framed (record f { commands = [] }) ∷ under → ⊥
@@ -205,10 +189,6 @@ module _ (script : Script) (budget : ℕ) (e : Exit) (ex : IsExit script e) (s n
     does_as : (c : Command) → a.command ≡ c → CommandStep script u c events after
     does_as c is = subst (λ (x : Command). CommandStep script u x events after) is does
 
-    referent_is : (r : ℕ) (m : Option ℕ) → Ref r ≡ referent_value script u events after m → m ≡ Some r
-    referent_is r None is = absurd (cc)
-    referent_is r (Some q) is = let same : r ≡ q = cc in ap (λ i. Some i) (sym same)
-
     value_cases : (m : Option ℕ) → (referent_value script u events after m ≡ Nothing) ⊎ ((r : ℕ) × (m ≡ Some r) × (referent_value script u events after m ≡ Ref r))
     value_cases None = inl refl
     value_cases (Some r) = inr (r, refl, refl)
@@ -222,22 +202,14 @@ module _ (script : Script) (budget : ℕ) (e : Exit) (ex : IsExit script e) (s n
             ⊎ ((r : ℕ) × (v ≡ Ref r) × Held e s (n + callbacks s events) after r)
         found d v got = either (value_cases d.object.referent) (λ none. inl (is_value ∙ none)) (λ r. inr (r.0, is_value ∙ r.2, held r.0 r.1 (is_value ∙ r.2)))
           where
-            now : World
-            now = push (Releasing (given_up_by u e.object)) (bound u e.object (Some (referent_value script u events after d.object.referent)))
-
-            some_same : (p q : Val) → Some p ≡ Some q → p ≡ q
-            some_same p q i = cc
-
             is_value : v ≡ referent_value script u events after d.object.referent
-            is_value = some_same v (referent_value script u events after d.object.referent)
+            is_value = same_Some v (referent_value script u events after d.object.referent)
                 (set_got w.names e.object (Some (referent_value script u events after d.object.referent)) (Some v)
                 (subst (λ (z : World). slice_get z.names e.object ≡ Some (Some v)) d.yields.1 got))
 
             watch_is : (q : Val) → value_of u (Name e.watch) ≡ Some q → object_of u q ≡ Some d.object → Includes w.objects d.object × (d.object.serial ≡ s)
             watch_is (Ref q) at there = let z = found_at w.objects q d.object there in (z.0, z.1 ∙ h.named q (subst (λ m. Includes (references_of_value m) q) (sym at) (inl refl)))
-            watch_is Nothing at there = absurd (cc)
-            watch_is (Int i) at there = absurd (cc)
-            watch_is (Str i) at there = absurd (cc)
+            watch_is v at there = absurd (cc)
 
             held : (r : ℕ) → d.object.referent ≡ Some r → v ≡ Ref r → Held e s (n + callbacks s events) after r
             held r some is_ref =

@@ -3,6 +3,7 @@ use Rattle.std.proofs.Common.{◌≡◌, ◌≢◌, refl, sym, ◌∙◌, ap, su
 use Rattle.std.specs.Prelude.{◌==◌, if◌then◌else◌}
 use Rattle.cg_value.specs.declared.Val.{Val}
 use Rattle.cg_value.specs.declared.Val.TheVariants.{Ref}
+use Rattle.cg_value.specs.declared.Place.{Place}
 use Rattle.cg_value.specs.declared.Place.TheVariants.{Gen}
 use Rattle.cg_script.specs.declared.Script.{Script}
 use Rattle.cg_script.specs.declared.Command.{Command}
@@ -11,19 +12,18 @@ use Rattle.cg_graph.specs.Object.{Object, is_tracked, with_entries, with_place}
 use Rattle.cg_graph.specs.Value.{put}
 use Rattle.cg_graph.proofs.Members.{either, Includes-append_cases, Includes-map_cases}
 use Rattle.cg_machine.specs.declared.event.Event.{Event}
-use Rattle.cg_machine.specs.declared.event.Event.TheVariants.{BudgetSpent, Collected, Enter, Made, Refused, Value}
-use Rattle.cg_machine.specs.declared.event.FrameSort.TheVariants.{Callback, Call as CallFrame}
-use Rattle.cg_machine.specs.Program.{body_of}
-use Rattle.cg_machine.specs.World.{World, Activity, TopLevel, Framed, ShuttingDown, BudgetIsSpent, with_change}
-use Rattle.cg_machine.specs.Frame.{Yields, procedure_of, start_frame}
+use Rattle.cg_machine.specs.declared.event.Event.TheVariants.{Collected, Enter, Made, Refused, Value}
+use Rattle.cg_machine.specs.declared.event.FrameSort.TheVariants.{Callback}
+use Rattle.cg_machine.specs.World.{World, Numbers, Activity, TopLevel, Framed, ShuttingDown, with_change}
 use Rattle.cg_machine.specs.Effects.{Changes, Effect, bound, frozen, may_track, replaced, tracked_by, unfrozen, with_new}
 use Rattle.cg_laws.proofs.Unreferred.{IsLater, later_refl, place_later}
 use Rattle.cg_represents.proofs.Inspecting.{AllTellThere}
 use Rattle.cg_laws.proofs.Invariants.{AreAnswers, AreLast, FromFrame, FromTop, HasCommands, Takes, emptied, on}
 use Rattle.cg_laws.proofs.ShapeLaws.{changes_leave, put_later}
-use Rattle.cg_represents.proofs.Shapes.{AsksWhy, Binds, Edits, Ends, Freezes, Inspects, Makes, Puts, Sets, Shape, Shows, StartsCollection, StartsFrame, Stays, Tells as TellsOne, TellsNumbers, Unfreezes}
+use Rattle.cg_represents.proofs.Shapes.{Binds, Edits, Freezes, Inspects, Makes, Puts, Sets, Shape, Shows, Stays, Tells as TellsOne, TellsNumbers, Unfreezes}
 use Rattle.cg_machine.specs.Operands.{is_dict}
 use Rattle.cg_laws.specs.Apart.{IsFound}
+use Rattle.cg_laws.proofs.Starting.{called_either}
 use Rattle.cg_weakcoll.proofs.ActivitySteps.{all_to_call, to_call}
 use Rattle.cg_weakcoll.proofs.HiddenObjectSteps.{frozen_found, unfrozen_found}
 use Rattle.cg_weakcoll.proofs.CallbacksOnce.{Tells, acted_tells}
@@ -49,9 +49,9 @@ there_quiet w lines there n m = there (Enter Callback n) m
 
 module _ (u : World) (command : Command) where
   -- the objects and lines of a changed world
-  next_follows : (lines told : List Event) (given_up given : List ℕ) (wanted wants : Bool) (after next : World) → Follows u told after
-      → Changes wanted told given_up after ≡ Changes wants lines given next → Follows u lines next
-  next_follows lines told given_up given wanted wants after next h e =
+  next_follows : {lines told : List Event} {given_up given : List ℕ} {wanted wants : Bool} {after next : World} → Changes wanted told given_up after
+      ≡ Changes wants lines given next → Follows u told after → Follows u lines next
+  next_follows {lines} {told} {given_up} {given} {wanted} {wants} {after} {next} e h =
       let same : after ≡ next = cc in
       let line : told ≡ lines = cc in
       subst (λ (ls : List Event). Follows u ls next) line (subst (Follows u told) same h)
@@ -84,6 +84,14 @@ module _ (u : World) (command : Command) where
       stood true x = place x
       stood false x = λ g. g
 
+  placed_follows : (f : Place → Place) (numbers : Numbers) → ((p : Place) → IsFound (f p) → IsFound p)
+      → Follows u [] (record u { objects = replaced f u; numbers = numbers })
+  placed_follows f numbers found = record {
+    serial = omega arith;
+    comes = λ y m. inl (mapped_comes (λ x. with_place (f x.place) x) (λ x. place_later (f x.place) x) (λ x. found x.place) y m);
+    quiet = nothing;
+  }
+
   put_place : (x : Object) (key v : Val) (y : Object) → IsFound (tracked_by u key v (with_entries (put x.entries key v) y)).place → IsFound y.place
   put_place x key v y = go (is_dict y && not (is_tracked y) && (may_track u key || may_track u v))
     where
@@ -92,51 +100,25 @@ module _ (u : World) (command : Command) where
       go false f = f
 
   pub shape_follows : (e : Effect) → Shape u command e → (wants : Bool) (lines : List Event) (given : List ℕ) (next : World) → e ≡ Changes wants lines given next → Follows u lines next
-  shape_follows e (Binds name v own hand) wants lines given next is = next_follows lines [] _ given false wants (bound u name v) next (follows_same u (bound u name v) [] refl refl nothing) is
-  shape_follows e (Makes name kind class entries referent own parts) wants lines given next is = next_follows lines (Made kind u.next_serial ∷ []) _ given true
-      wants (bound (with_new u kind class entries referent) name (Some (Ref u.next_serial))) next (record {
-        serial = omega arith;
-        comes = λ y m. either (Includes-append_cases u.objects (_ ∷ []) y m) (λ k. inl (y, k, later_refl y, λ f. f))
-            (λ k. either k (λ i. inr (ap (λ (z : Object). z.serial) (sym i))) (λ none. absurd none));
-        quiet = one_quiet (Made kind u.next_serial) (λ n k. cc);
-      }) is
-  shape_follows e (Edits wants_memory x entries given_up has mutable edit) wants lines given next is = next_follows lines [] given_up given wants_memory wants
-      (with_change (with_entries entries) x.serial u) next (changed_follows (with_entries entries) x.serial (λ z. record {
-        serial = refl;
-        code = refl;
-        class = refl;
-        referent = inl refl;
-      }) (λ z f. f)) is
-  shape_follows e (Puts x key v has mutable hand_key hand room) wants lines given next is = next_follows lines [] _ given _ wants
-      (with_change (λ y. tracked_by u key v (with_entries (put x.entries key v) y)) x.serial u) next
-      (changed_follows (λ y. tracked_by u key v (with_entries (put x.entries key v) y)) x.serial (put_later u x key v) (put_place x key v)) is
-  shape_follows e (Shows v hand) wants lines given next is = next_follows lines (Value v ∷ []) [] given false wants u next (follows_same u u (Value v ∷ []) refl
-      refl (one_quiet (Value v) (λ n k. cc))) is
-  shape_follows e (TellsOne line tells) wants lines given next is = next_follows lines (line ∷ []) [] given false wants u next
-      (follows_same u u (line ∷ []) refl refl (one_quiet line (numbers_quiet line tells))) is
-  shape_follows e Stays wants lines given next is = next_follows lines [] [] given false wants u next (follows_same u u [] refl refl nothing) is
-  shape_follows e (Sets numbers own keeps) wants lines given next is = next_follows lines [] [] given false wants (record u { numbers = numbers }) next
-      (follows_same u (record u { numbers = numbers }) [] refl refl nothing) is
-  shape_follows e (Freezes own) wants lines given next is = next_follows lines [] [] given false wants
-      (record u { objects = replaced frozen u; numbers = record u.numbers { zero_count = 0; one_count = 0; two_count = 0 } }) next
-      (record {
-        serial = omega arith;
-        comes = λ y m. inl (mapped_comes (λ x. with_place (frozen x.place) x) (λ x. place_later (frozen x.place) x)
-            (λ x. frozen_found x.place) y m);
-        quiet = nothing;
-      }) is
-  shape_follows e (Unfreezes own) wants lines given next is = next_follows lines [] [] given false wants (record u { objects = replaced unfrozen u }) next
-      (record {
-        serial = omega arith;
-        comes = λ y m. inl (mapped_comes (λ x. with_place (unfrozen x.place) x) (λ x. place_later (unfrozen x.place) x)
-            (λ x. unfrozen_found x.place) y m);
-        quiet = nothing;
-      }) is
-  shape_follows e (StartsFrame f has) wants lines given next is = absurd (cc)
-  shape_follows e (StartsCollection g low) wants lines given next is = absurd (cc)
-  shape_follows e Ends wants lines given next is = absurd (cc)
-  shape_follows e (Inspects told calm there) wants lines given next is = next_follows lines told [] given true wants u next (follows_same u u told refl refl (there_quiet u told there)) is
-  shape_follows e (AsksWhy x has calm) wants lines given next is = absurd (cc)
+  shape_follows e (Binds name v own hand) wants lines given next is = next_follows is (follows_same u (bound u name v) [] refl refl nothing)
+  shape_follows e (Makes name kind class entries referent own parts) wants lines given next is = next_follows is (record {
+    serial = omega arith;
+    comes = λ y m. either (Includes-append_cases u.objects (_ ∷ []) y m) (λ k. inl (y, k, later_refl y, λ f. f))
+        (λ k. either k (λ i. inr (ap (λ (z : Object). z.serial) (sym i))) (λ none. absurd none));
+    quiet = one_quiet (Made kind u.next_serial) (λ n k. cc);
+  })
+  shape_follows e (Edits wants_memory x entries given_up has mutable edit) wants lines given next is = next_follows is
+      (changed_follows (with_entries entries) x.serial (λ z. record { serial = refl; code = refl; class = refl; referent = inl refl }) (λ z f. f))
+  shape_follows e (Puts x key v has mutable hand_key hand room) wants lines given next is = next_follows is
+      (changed_follows (λ y. tracked_by u key v (with_entries (put x.entries key v) y)) x.serial (put_later u x key v) (put_place x key v))
+  shape_follows e (Shows v hand) wants lines given next is = next_follows is (follows_same u u (Value v ∷ []) refl refl (one_quiet (Value v) (λ n k. cc)))
+  shape_follows e (TellsOne line tells) wants lines given next is = next_follows is (follows_same u u (line ∷ []) refl refl (one_quiet line (numbers_quiet line tells)))
+  shape_follows e Stays wants lines given next is = next_follows is (follows_same u u [] refl refl nothing)
+  shape_follows e (Sets numbers own keeps) wants lines given next is = next_follows is (follows_same u (record u { numbers = numbers }) [] refl refl nothing)
+  shape_follows e (Freezes own) wants lines given next is = next_follows is (placed_follows frozen _ frozen_found)
+  shape_follows e (Unfreezes own) wants lines given next is = next_follows is (placed_follows unfrozen u.numbers unfrozen_found)
+  shape_follows e (Inspects told calm there) wants lines given next is = next_follows is (follows_same u u told refl refl (there_quiet u told there))
+  shape_follows e shape wants lines given next is = absurd (cc)
 
 answers_quiet : (lines : List Event) → AreAnswers lines → (n : ℕ) → ¬ Includes lines (Enter Callback n)
 answers_quiet [] k n m = m
@@ -146,9 +128,7 @@ answers_quiet lines k n m = absurd k
 
 last_quiet : (w : World) (a : Activity) (lines : List Event) → AreLast w a lines → (n : ℕ) → ¬ Includes lines (Enter Callback n)
 last_quiet w (TopLevel []) lines e n m = either (subst (λ (ls : List Event). Includes ls (Enter Callback n)) e m) (λ i. cc) (λ none. none)
-last_quiet w (TopLevel (command ∷ commands)) lines e n m = absurd e
 last_quiet w (ShuttingDown true) lines e n m = either (subst (λ (ls : List Event). Includes ls (Enter Callback n)) e m) (λ i. cc) (λ k. either k (λ i. cc) (λ none. none))
-last_quiet w (ShuttingDown false) lines e n m = absurd e
 last_quiet w a lines e n m = absurd e
 
 -- an activity with commands has nothing to call
@@ -185,50 +165,22 @@ module _ (s : ℕ) (w : World) (events : List Event) (after : World) where
       → ((n : ℕ) → ¬ Includes events (Enter Callback n)) → Tells s w events after
   same_tells low serial objects waits quiet = plainly (omega (arith, serial)) (λ o y m e k. (y, subst (λ os. Includes os y) objects m, later_refl y, λ f. f)) low waits quiet
 
+  -- of a world like this one
+  like_tells : {u : World} → s < w.next_serial → after ≡ u → u.next_serial ≡ w.next_serial → u.objects ≡ w.objects → all_to_call u.stack ≡ all_to_call w.stack
+      → ((n : ℕ) → ¬ Includes events (Enter Callback n)) → Tells s w events after
+  like_tells low is serial objects waits quiet = same_tells low (ap (λ (z : World). z.next_serial) is ∙ serial) (ap (λ (z : World). z.objects) is ∙ objects)
+      (ap (λ (z : World). all_to_call z.stack) is ∙ waits) quiet
+
 none_events : (events : List Event) → events ≡ [] → (n : ℕ) → ¬ Includes events (Enter Callback n)
 none_events events e n m = subst (λ (ls : List Event). Includes ls (Enter Callback n)) e m
-
-call_quiet : (script : Script) (f p : ℕ) (u : World) (events : List Event) (after : World)
-    → Yields (start_frame script (record { sort = CallFrame; proc = p; subject = f; func = Some f }) u) events after
-    → ((n : ℕ) → ¬ Includes events (Enter Callback n)) × (after.objects ≡ u.objects) × (after.next_serial ≡ u.next_serial) × (all_to_call after.stack ≡ all_to_call u.stack)
-call_quiet script f p u events after step = go (u.budget == 0) step
-  where
-    go : (b : Bool) → Yields (if b then (BudgetSpent ∷ [], record u { outcome = BudgetIsSpent })
-        else (
-          Enter CallFrame f ∷ [],
-          record u {
-            budget = u.budget - 1;
-            stack = Framed (record {
-              sort = CallFrame;
-              subject = f;
-              function = Some f;
-              commands = body_of script p;
-            }) ∷ u.stack;
-          },
-        )) events after
-        → ((n : ℕ) → ¬ Includes events (Enter Callback n)) × (after.objects ≡ u.objects) × (after.next_serial ≡ u.next_serial) × (all_to_call after.stack ≡ all_to_call u.stack)
-    go true y = (
-      λ n m. either (subst (λ (ls : List Event). Includes ls (Enter Callback n)) y.0 m) (λ i. cc) (λ none. none),
-      ap (λ (z : World). z.objects) y.1,
-      ap (λ (z : World). z.next_serial) y.1,
-      ap (λ (z : World). all_to_call z.stack) y.1,
-    )
-    go false y = (
-      λ n m. either (subst (λ (ls : List Event). Includes ls (Enter Callback n)) y.0 m) (λ i. cc) (λ none. none),
-      ap (λ (z : World). z.objects) y.1,
-      ap (λ (z : World). z.next_serial) y.1,
-      ap (λ (z : World). all_to_call z.stack) y.1,
-    )
 
 done_tells : (script : Script) (s : ℕ) (command : Command) (a b : Activity) (below : List Activity) (v : World) (events : List Event) (after : World)
     → s < v.next_serial → to_call a ≡ [] → HasCommands b
     → Done script command (on b below v) b below events after → Tells s (on a below v) events after
-done_tells script s command a b below v events after low none hb (Stood answers is) = same_tells s (on a below v) events after low
-    (ap (λ (z : World). z.next_serial) is) (ap (λ (z : World). z.objects) is)
-    (ap (λ (z : World). all_to_call z.stack) is ∙ ap (λ xs. xs ++ all_to_call below) (none_to_call b hb ∙ sym none)) (answers_quiet events answers)
-done_tells script s command a b below v events after low none hb (Stopped answers is) = same_tells s (on a below v) events after low
-    (ap (λ (z : World). z.next_serial) is) (ap (λ (z : World). z.objects) is)
-    (ap (λ (z : World). all_to_call z.stack) is ∙ ap (λ xs. xs ++ all_to_call below) (emptied_to_call b hb ∙ sym none)) (answers_quiet events answers)
+done_tells script s command a b below v events after low none hb (Stood answers is) = like_tells s (on a below v) events after low is refl refl
+    (ap (λ xs. xs ++ all_to_call below) (none_to_call b hb ∙ sym none)) (answers_quiet events answers)
+done_tells script s command a b below v events after low none hb (Stopped answers is) = like_tells s (on a below v) events after low is refl refl
+    (ap (λ xs. xs ++ all_to_call below) (emptied_to_call b hb ∙ sym none)) (answers_quiet events answers)
 done_tells script s command a b below v events after low none hb (Changed wants given next is shape) =
     let f = shape_follows (on b below v) command (Changes wants events given next) shape wants events given next refl in
     let stack = (changes_leave (on b below v) command wants events given next shape).stack in
@@ -236,24 +188,19 @@ done_tells script s command a b below v events after low none hb (Changed wants 
     (λ o y m e under. either (f.comes y (subst (λ (z : World). Includes z.objects y) is m)) (λ x. x) (λ new. absurd (omega (arith, under, e, new)))) low
     (ap (λ (z : World). all_to_call z.stack) is ∙ ap all_to_call stack ∙ ap (λ xs. xs ++ all_to_call below) (none_to_call b hb ∙ sym none)) f.quiet
 done_tells script s command a b below v events after low none hb (Began f has step) =
-    let q = call_quiet script f.serial (procedure_of (on b below v) f.serial) (on b below v) events after step in
-    same_tells s (on a below v) events after low q.2 q.1 (q.3 ∙ ap (λ xs. xs ++ all_to_call below) (none_to_call b hb ∙ sym none)) q.0
-done_tells script s command a b below v events after low none hb (Asked g no_line is) = same_tells s (on a below v) events after low
-    (ap (λ (z : World). z.next_serial) is) (ap (λ (z : World). z.objects) is)
-    (ap (λ (z : World). all_to_call z.stack) is ∙ ap (λ xs. xs ++ all_to_call below) (none_to_call b hb ∙ sym none)) (none_events events no_line)
+    let waits = ap (λ xs. xs ++ all_to_call below) (none_to_call b hb ∙ sym none) in
+    called_either (Tells s (on a below v)) script (on b below v) f.serial events after step (same_tells s (on a below v) _ _ low refl refl waits (λ n m. either m (λ i. cc) (λ no. no)))
+    (same_tells s (on a below v) _ _ low refl refl waits (λ n m. either m (λ i. cc) (λ no. no)))
+done_tells script s command a b below v events after low none hb (Asked g no_line is) = like_tells s (on a below v) events after low is refl refl
+    (ap (λ xs. xs ++ all_to_call below) (none_to_call b hb ∙ sym none)) (none_events events no_line)
 
 pub went_tells : (script : Script) (budget s : ℕ) (w : World) (events : List Event) (after : World) → Known script budget w → s < w.next_serial → Went script w events after → Tells s w events after
 went_tells script budget s w events after k low (Acted a below top acts) = acted_tells script budget s w a below events after k top acts
-went_tells script budget s w events after k low (Due g set none is) = same_tells s w events after low (ap (λ (z : World). z.next_serial) is)
-    (ap (λ (z : World). z.objects) is) (ap (λ (z : World). all_to_call z.stack) is) (none_events events none)
-went_tells script budget s w events after k low (Over a under place last is) = same_tells s w events after low (ap (λ (z : World). z.next_serial) is)
-    (ap (λ (z : World). z.objects) is) (ap (λ (z : World). all_to_call z.stack) is) (last_quiet w a events last)
-went_tells script budget s w events after k low (Bottomed below top none is) = same_tells s w events after low (ap (λ (z : World). z.next_serial) is)
-    (ap (λ (z : World). z.objects) is) (ap (λ (z : World). all_to_call z.stack) is ∙ sym (ap all_to_call top)) (none_events events none)
-went_tells script budget s w events after k low (GaveUp name below top none is) = same_tells s w events after low (ap (λ (z : World). z.next_serial) is)
-    (ap (λ (z : World). z.objects) is) (ap (λ (z : World). all_to_call z.stack) is) (none_events events none)
-went_tells script budget s w events after k low (Lasted below top none is) = same_tells s w events after low (ap (λ (z : World). z.next_serial) is)
-    (ap (λ (z : World). z.objects) is) (ap (λ (z : World). all_to_call z.stack) is ∙ sym (ap all_to_call top)) (none_events events none)
+went_tells script budget s w events after k low (Due g set none is) = like_tells s w events after low is refl refl refl (none_events events none)
+went_tells script budget s w events after k low (Over a under place last is) = like_tells s w events after low is refl refl refl (last_quiet w a events last)
+went_tells script budget s w events after k low (Bottomed below top none is) = like_tells s w events after low is refl refl (sym (ap all_to_call top)) (none_events events none)
+went_tells script budget s w events after k low (GaveUp name below top none is) = like_tells s w events after low is refl refl refl (none_events events none)
+went_tells script budget s w events after k low (Lasted below top none is) = like_tells s w events after low is refl refl (sym (ap all_to_call top)) (none_events events none)
 went_tells script budget s w events after k low (Commanded command a b below v is takes hb done) =
     subst (λ (z : World). Tells s z events after) (sym is) (done_tells script s command a b below v events after (subst (λ (z : World). s < z.next_serial) is
     low) (taken_to_call command a b takes) hb done)

@@ -4,14 +4,12 @@ use Rattle.std.specs.Prelude.{◌==◌, count_by}
 use Rattle.std.specs.Fmt.{digits}
 use Rattle.std.proofs.lemmas.Bool.{eqb-true}
 use Rattle.cg_script.specs.declared.Command.TheVariants.{MakeFunc, MakeInst}
-use Rattle.cg_script.specs.Texts.{operand_names}
 use Rattle.cg_script.specs.Words.{atoms}
 use Rattle.cg_script.specs.Forms.{bindings, openers}
 use Rattle.cg_script.specs.Meanings.{meaning}
 use Rattle.cg_script.specs.Reading.{meant, reading, spells}
 use Rattle.cg_script.proofs.ReadScripts.{read_known}
 use Rattle.cg_graph.proofs.Members.{true_and}
-use Rattle.cg_machine.specs.Program.{procedures}
 use Rattle.cg_machine.specs.World.{World, Activity, Frame, TopLevel, opening}
 use Rattle.cg_machine.specs.declared.event.FrameSort.TheVariants.{Call as CallFrame}
 use Rattle.cg_machine.specs.Run.{StepTaken, world_after}
@@ -20,33 +18,15 @@ use Rattle.cg_laws.proofs.Deterministic.{first_steps_run, next}
 use Rattle.cg_weakcoll.specs.Expansion.{expansion}
 use Rattle.cg_weakcoll.specs.Exits.{IsExit, FindsAlive, NoneRefused, exit_body, is_refusal}
 use Rattle.cg_weakcoll.specs.WorkedExits.{FindsAliveAndCalls, one_finalizer, one_script, the_exit}
-use Rattle.cg_weakcoll.proofs.WorkedFinalizers.{all_told, bodies_told, classes_told, others_told}
+use Rattle.cg_weakcoll.proofs.WorkedFinalizers.{classes_told, exit_there}
 
 spelled : reading (expansion one_finalizer) ≡ spells one_script.names one_script.items
 unfolding digits expansion atoms openers bindings meaning meant
 spelled = refl
 
 there : IsExit one_script the_exit
-there = record {
-  body = refl;
-  front = MakeFunc 2 0 [] ∷ MakeInst 3 0 ∷ [];
-  middle = [];
-  back = [];
-  commands = refl;
-  front_other = all_told the_exit (MakeFunc 2 0 [] ∷ MakeInst 3 0 ∷ []) refl;
-  middle_other = all_told the_exit [] refl;
-  back_other = all_told the_exit [] refl;
-  bodies_other = λ proc apart. bodies_told the_exit 0 (procedures one_script.items) refl proc (λ same. apart (omega (arith, same)));
-  source_other = others_told the_exit (operand_names the_exit.source) refl;
-  target_other = others_told the_exit (operand_names the_exit.target) refl;
-  classes_other = classes_told 1;
-  watch_exit = λ i. omega (arith, i);
-  watch_function = λ i. omega (arith, i);
-  watch_object = λ i. omega (arith, i);
-  exit_function = λ i. omega (arith, i);
-  exit_object = λ i. omega (arith, i);
-  function_object = λ i. omega (arith, i);
-}
+there = exit_there one_script the_exit (MakeFunc 2 0 [] ∷ MakeInst 3 0 ∷ []) [] []
+    refl refl refl refl refl refl refl refl (classes_told 1) (λ i. omega (arith, i)) (λ i. omega (arith, i)) (λ i. omega (arith, i)) (λ i. omega (arith, i)) (λ i. omega (arith, i)) (λ i. omega (arith, i))
 
 -- the steps from a position on
 abbrev start : World

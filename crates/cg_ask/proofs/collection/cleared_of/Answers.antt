@@ -1,34 +1,22 @@
-use Rattle.std.proofs.Common.{ap, length, Bool, List, arith, false}
+use Rattle.std.proofs.Common.{arith, false}
 use Rattle.cg_ask.proofs.Clearing.{cleared_just, legacy_long}
-use Rattle.cg_ask.proofs.FaultsOfHeaps.{refs_within}
+use Rattle.cg_ask.proofs.FaultsOfHeaps.{refs_within, long}
 use Rattle.cg_ask.proofs.collection.cleared_of.Goals as goal
 
 pub reached-requires-clause-as_many : goal.reached-requires-clause-as_many
-reached-requires-clause-as_many c = omega (
-  arith,
-  ap (λ (bs : List Bool). length bs) c.deref.ensures.value,
-  ap (λ (bs : List Bool). length bs)
-      c.deref-2.ensures.value,
-  c.in_ok-lost.ensures.len,
-  legacy_long c.args.members.now c.in_ok-marks.marks.items c.in_ok-marks.ensures,
-)
+reached-requires-clause-as_many c =
+    omega (arith, long c.deref.ensures.value, long c.deref-2.ensures.value, c.in_ok-lost.ensures.len, legacy_long c.args.members.now c.in_ok-marks.marks.items c.in_ok-marks.ensures)
 
 pub reached-requires-clause-long : goal.reached-requires-clause-long
-reached-requires-clause-long c = omega (arith, ap (λ (bs : List Bool). length bs) c.deref-2.ensures.value, c.in_ok-lost.ensures.len)
+reached-requires-clause-long c = omega (arith, long c.deref-2.ensures.value, c.in_ok-lost.ensures.len)
 
 pub reached-requires-clause-within : goal.reached-requires-clause-within
 reached-requires-clause-within c = λ i m.
     let within = refs_within c.args.members.now false c.requires.right i m in
-    omega (arith, within, ap (λ (bs : List Bool). length bs) c.deref-2.ensures.value, c.in_ok-lost.ensures.len)
+    omega (arith, within, long c.deref-2.ensures.value, c.in_ok-lost.ensures.len)
 
 pub without-requires : goal.without-requires
-without-requires c = omega (
-  arith,
-  ap (λ (bs : List Bool). length bs) c.deref-2.ensures.value,
-  ap (λ (bs : List Bool). length bs) c.deref-3.ensures.value,
-  ap (λ (bs : List Bool). length bs) c.deref-4.ensures.value,
-  c.in_ok-aside.ensures.len,
-)
+without-requires c = omega (arith, long c.deref-2.ensures.value, long c.deref-3.ensures.value, long c.deref-4.ensures.value, c.in_ok-aside.ensures.len)
 
 pub returns : goal.returns
 returns c =

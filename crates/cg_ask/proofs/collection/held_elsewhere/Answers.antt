@@ -1,4 +1,4 @@
-use Rattle.std.proofs.Common.{◌∙◌, ap, length, Bool, List, ℕ, arith}
+use Rattle.std.proofs.Common.{◌∙◌, ap, Bool, List, arith}
 use Rattle.std.proofs.lemmas.List.{length-map}
 use Rattle.cg_search.specs.Counts.{targets_from}
 use Rattle.cg_snapshot.specs.declared.heap.Member.{Member}
@@ -6,6 +6,7 @@ use Rattle.cg_graph.specs.Holdings.{occurrences}
 use Rattle.cg_ask.specs.Asked.{rows_of}
 use Rattle.cg_ask.proofs.Clearing.{candidates_long, elsewhere_just}
 use Rattle.cg_ask.proofs.collection.held_elsewhere.Goals as goal
+use Rattle.cg_ask.proofs.FaultsOfHeaps.{long}
 
 pub count_targets-requires-clause-marked : goal.count_targets-requires-clause-marked
 count_targets-requires-clause-marked c = candidates_long c.args.members.now c.args.candidates.now c.requires.candidates
@@ -14,10 +15,10 @@ pub below-requires : goal.below-requires
 below-requires c =
     omega (
       arith,
-      ap (λ (ns : List ℕ). length ns) c.deref.ensures.value,
-      ap (λ (ns : List ℕ). length ns) c.deref-2.ensures.value,
+      long c.deref.ensures.value,
+      long c.deref-2.ensures.value,
       c.in_ok-counts.ensures.len,
-      ap (λ (ns : List ℕ). length ns) c.in_ok-degrees.ensures,
+      long c.in_ok-degrees.ensures,
       length-map c.args.members.now (λ (m : Member). m.degree),
     )
 

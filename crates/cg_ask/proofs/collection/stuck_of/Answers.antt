@@ -1,12 +1,13 @@
-use Rattle.std.proofs.Common.{ap, length, Bool, List, arith}
+use Rattle.std.proofs.Common.{arith}
 use Rattle.cg_ask.proofs.Clearing.{stuck_just}
 use Rattle.cg_ask.proofs.collection.stuck_of.Goals as goal
+use Rattle.cg_ask.proofs.FaultsOfHeaps.{long}
 
 pub dying-requires-clause-long : goal.dying-requires-clause-long
-dying-requires-clause-long c = omega (arith, ap (λ (bs : List Bool). length bs) c.deref.ensures.value, c.in_ok-cleared.ensures.len)
+dying-requires-clause-long c = omega (arith, long c.deref.ensures.value, c.in_ok-cleared.ensures.len)
 
 pub without-requires : goal.without-requires
-without-requires c = omega (arith, ap (λ (bs : List Bool). length bs) c.deref-2.ensures.value, c.in_ok-dead.ensures.len, c.requires.lost.len)
+without-requires c = omega (arith, long c.deref-2.ensures.value, c.in_ok-dead.ensures.len, c.requires.lost.len)
 
 pub returns : goal.returns
 returns c =

@@ -1,6 +1,7 @@
 use Rattle.cg_ask.specs.Faults.{HasFault}
-use Rattle.cg_ask.proofs.FaultsOfHeaps.{right_more, right_all, if_some, if_none}
+use Rattle.cg_ask.proofs.FaultsOfHeaps.{right_more, right_all}
 use Rattle.cg_ask.proofs.faults.find_fault.Goals as goal
+use Rattle.cg_snapshot.proofs.DistinctRows.{if_some, if_none}
 
 pub members-preserved : goal.members-preserved
 members-preserved c = right_more c.args.members.now c.args.with_words c.members.at c.members.invariant (if_none _ _ c.in_default.is c.fault_at.ensures.right)

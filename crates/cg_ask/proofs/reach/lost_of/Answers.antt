@@ -1,15 +1,10 @@
-use Rattle.std.proofs.Common.{ap, length, Bool, List, arith}
+use Rattle.std.proofs.Common.{arith}
 use Rattle.cg_ask.proofs.Reaching.{lost_just}
 use Rattle.cg_ask.proofs.reach.lost_of.Goals as goal
+use Rattle.cg_ask.proofs.FaultsOfHeaps.{long}
 
 pub without-requires : goal.without-requires
-without-requires c = omega (
-  arith,
-  ap (λ (bs : List Bool). length bs) c.deref.ensures.value,
-  ap (λ (bs : List Bool). length bs) c.deref-2.ensures.value,
-  c.in_ok-all.ensures.len,
-  c.in_ok-found.ensures.len,
-)
+without-requires c = omega (arith, long c.deref.ensures.value, long c.deref-2.ensures.value, c.in_ok-all.ensures.len, c.in_ok-found.ensures.len)
 
 pub returns : goal.returns
 returns c =

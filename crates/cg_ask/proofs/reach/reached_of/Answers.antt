@@ -1,26 +1,19 @@
-use Rattle.std.proofs.Common.{refl, ◌∙◌, ap, length, Bool, List, arith, false}
+use Rattle.std.proofs.Common.{refl, ◌∙◌, arith, false}
 use Rattle.cg_ask.specs.Asked.{IsHeld, IsMember, edges, rows_of}
-use Rattle.cg_ask.proofs.FaultsOfHeaps.{refs_within}
+use Rattle.cg_ask.proofs.FaultsOfHeaps.{refs_within, long}
 use Rattle.cg_ask.proofs.Reaching.{found_just}
 use Rattle.cg_ask.proofs.reach.reached_of.Goals as goal
 
 pub reached-requires-clause-as_many : goal.reached-requires-clause-as_many
-reached-requires-clause-as_many c = omega (
-  arith,
-  ap (λ (bs : List Bool). length bs) c.deref.ensures.value,
-  ap (λ (bs : List Bool). length bs)
-      c.deref-2.ensures.value,
-  c.in_ok-held.ensures.len,
-  c.in_ok-all.ensures.len,
-)
+reached-requires-clause-as_many c = omega (arith, long c.deref.ensures.value, long c.deref-2.ensures.value, c.in_ok-held.ensures.len, c.in_ok-all.ensures.len)
 
 pub reached-requires-clause-long : goal.reached-requires-clause-long
-reached-requires-clause-long c = omega (arith, ap (λ (bs : List Bool). length bs) c.deref-2.ensures.value, c.in_ok-all.ensures.len)
+reached-requires-clause-long c = omega (arith, long c.deref-2.ensures.value, c.in_ok-all.ensures.len)
 
 pub reached-requires-clause-within : goal.reached-requires-clause-within
 reached-requires-clause-within c = λ i m.
     let within = refs_within c.args.members.now false c.requires.right i m in
-    omega (arith, within, ap (λ (bs : List Bool). length bs) c.deref-2.ensures.value, c.in_ok-all.ensures.len)
+    omega (arith, within, long c.deref-2.ensures.value, c.in_ok-all.ensures.len)
 
 pub returns : goal.returns
 returns c =

@@ -1,34 +1,22 @@
-use Rattle.std.proofs.Common.{ap, length, Bool, List, arith}
+use Rattle.std.proofs.Common.{arith}
 use Rattle.cg_graph.specs.Member.{Includes}
 use Rattle.cg_ask.proofs.DiesByCount.{dead_just}
 use Rattle.cg_ask.proofs.WouldGo.{gone_just}
 use Rattle.cg_ask.proofs.sets.gone_of.Goals as goal
+use Rattle.cg_ask.proofs.FaultsOfHeaps.{long}
 
 pub marked-requires : goal.marked-requires
 marked-requires c = c.requires.places
 
 pub dying-requires-clause-long : goal.dying-requires-clause-long
-dying-requires-clause-long c = omega (arith, ap (λ (bs : List Bool). length bs) c.deref.ensures.value, c.in_ok-given.ensures.len)
+dying-requires-clause-long c = omega (arith, long c.deref.ensures.value, c.in_ok-given.ensures.len)
 
 pub without-requires : goal.without-requires
-without-requires c = omega (
-  arith,
-  ap (λ (bs : List Bool). length bs) c.deref-2.ensures.value,
-  ap (λ (bs : List Bool). length bs) c.deref-3.ensures.value,
-  c.in_ok-before.ensures.len,
-  c.in_ok-after.ensures.len,
-)
+without-requires c = omega (arith, long c.deref-2.ensures.value, long c.deref-3.ensures.value, c.in_ok-before.ensures.len, c.in_ok-after.ensures.len)
 
 pub joined-requires : goal.joined-requires
-joined-requires c = omega (
-  arith,
-  ap (λ (bs : List Bool). length bs) c.deref-2.ensures.value,
-  ap (λ (bs : List Bool). length bs) c.deref-4.ensures.value,
-  ap (λ (bs : List Bool). length bs) c.deref-5.ensures.value,
-  c.in_ok-dead.ensures.len,
-  c.in_ok-before.ensures.len,
-  c.in_ok-let_go.ensures.len,
-)
+joined-requires c =
+    omega (arith, long c.deref-2.ensures.value, long c.deref-4.ensures.value, long c.deref-5.ensures.value, c.in_ok-dead.ensures.len, c.in_ok-before.ensures.len, c.in_ok-let_go.ensures.len)
 
 pub returns-clause-gone : goal.returns-clause-gone
 returns-clause-gone c =

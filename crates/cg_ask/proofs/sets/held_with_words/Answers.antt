@@ -1,9 +1,10 @@
-use Rattle.std.proofs.Common.{ap, length, List, ℕ, arith}
+use Rattle.std.proofs.Common.{arith}
 use Rattle.cg_ask.proofs.KeptByUntoldWords.{held_with_just}
 use Rattle.cg_ask.proofs.sets.held_with_words.Goals as goal
+use Rattle.cg_ask.proofs.FaultsOfHeaps.{long}
 
 pub below-requires : goal.below-requires
-below-requires c = omega (arith, ap (λ (ns : List ℕ). length ns) c.as_slice.ensures.value, c.requires.counts.words.len, c.requires.outside.len)
+below-requires c = omega (arith, long c.as_slice.ensures.value, c.requires.counts.words.len, c.requires.outside.len)
 
 pub returns : goal.returns
 returns c =

@@ -1,42 +1,23 @@
-use Rattle.std.proofs.Common.{◌∙◌, ap, length, map, Bool, List, ℕ, arith}
+use Rattle.std.proofs.Common.{◌∙◌, map, arith}
 use Rattle.cg_ask.proofs.KeptByUntoldWords.{all_within, kept_just, plain_rows, same_rows, rows_long}
 use Rattle.cg_ask.proofs.sets.kept_of.Goals as goal
+use Rattle.cg_ask.proofs.FaultsOfHeaps.{long}
 
 pub reached-requires-clause-as_many : goal.reached-requires-clause-as_many
-reached-requires-clause-as_many c = omega (
-  arith,
-  ap (λ (bs : List Bool). length bs) c.deref.ensures.value,
-  ap (λ (bs : List Bool). length bs)
-      c.deref-2.ensures.value,
-  c.in_ok-held.ensures.len,
-  c.in_ok-all.ensures.len,
-)
+reached-requires-clause-as_many c = omega (arith, long c.deref.ensures.value, long c.deref-2.ensures.value, c.in_ok-held.ensures.len, c.in_ok-all.ensures.len)
 
 pub reached-requires-clause-long : goal.reached-requires-clause-long
-reached-requires-clause-long c = omega (
-  arith,
-  ap (λ (bs : List Bool). length bs) c.deref-2.ensures.value,
-  ap (λ (rs : List (List ℕ)). length rs)
-      c.deref-3.ensures.value,
-  rows_long c.args.members.now c.in_ok-rows.rows.items c.in_ok-rows.ensures,
-  c.in_ok-all.ensures.len,
-)
+reached-requires-clause-long c =
+    omega (arith, long c.deref-2.ensures.value, long c.deref-3.ensures.value, rows_long c.args.members.now c.in_ok-rows.rows.items c.in_ok-rows.ensures, c.in_ok-all.ensures.len)
 
 pub reached-requires-clause-within : goal.reached-requires-clause-within
 reached-requires-clause-within c = λ i m.
     let within = all_within c.args.members.now c.deref-3.result.now c.requires.right (c.deref-3.ensures.value ∙ c.in_ok-rows.ensures) i (plain_rows c.deref-3.result.now i m) in
-    omega (arith, within, ap (λ (bs : List Bool). length bs) c.deref-2.ensures.value, c.in_ok-all.ensures.len)
+    omega (arith, within, long c.deref-2.ensures.value, c.in_ok-all.ensures.len)
 
 pub without-requires : goal.without-requires
-without-requires c = omega (
-  arith,
-  ap (λ (bs : List Bool). length bs) c.deref-2.ensures.value,
-  ap (λ (bs : List Bool). length bs) c.deref-4.ensures.value,
-  ap (λ (bs : List Bool). length bs) c.deref-5.ensures.value,
-  c.in_ok-before.ensures.len,
-  c.in_ok-found.ensures.len,
-  c.in_ok-all.ensures.len,
-)
+without-requires c =
+    omega (arith, long c.deref-2.ensures.value, long c.deref-4.ensures.value, long c.deref-5.ensures.value, c.in_ok-before.ensures.len, c.in_ok-found.ensures.len, c.in_ok-all.ensures.len)
 
 pub returns : goal.returns
 returns c =

@@ -1,21 +1,16 @@
-use Rattle.std.proofs.Common.{ap, length, Bool, List, arith}
+use Rattle.std.proofs.Common.{length, arith}
 use Rattle.std.specs.Prelude.{codes}
 use Rattle.cg_ask.specs.Asked.{IsLost, IsStuck}
 use Rattle.cg_ask.specs.Answers.{TellsLost}
 use Rattle.cg_ask.proofs.Rows.{flagged_same}
 use Rattle.cg_ask.proofs.sets.put_lost.Goals as goal
+use Rattle.cg_ask.proofs.FaultsOfHeaps.{long}
 
 pub stuck_of-requires-clause-lost : goal.stuck_of-requires-clause-lost
 stuck_of-requires-clause-lost c = rw c.deref.ensures.value c.in_ok-lost.ensures
 
 pub put_flagged-requires : goal.put_flagged-requires
-put_flagged-requires c = omega (
-  arith,
-  ap (λ (bs : List Bool). length bs) c.deref-2.ensures.value,
-  ap (λ (bs : List Bool). length bs) c.deref-3.ensures.value,
-  c.in_ok-lost.ensures.len,
-  c.in_ok-stuck.ensures.len,
-)
+put_flagged-requires c = omega (arith, long c.deref-2.ensures.value, long c.deref-3.ensures.value, c.in_ok-lost.ensures.len, c.in_ok-stuck.ensures.len)
 
 pub returns : goal.returns
 returns c =

@@ -1,25 +1,18 @@
-use Rattle.std.proofs.Common.{ap, length, Bool, List, arith, false}
-use Rattle.cg_ask.proofs.FaultsOfHeaps.{refs_within}
+use Rattle.std.proofs.Common.{arith, false}
+use Rattle.cg_ask.proofs.FaultsOfHeaps.{refs_within, long}
 use Rattle.cg_ask.proofs.Reaching.{found_way, found_none}
 use Rattle.cg_ask.proofs.why.path_to.Goals as goal
 
 pub shortest_way-requires-clause-as_many : goal.shortest_way-requires-clause-as_many
-shortest_way-requires-clause-as_many c = omega (
-  arith,
-  ap (λ (bs : List Bool). length bs) c.deref.ensures.value,
-  ap (λ (bs : List Bool). length bs)
-      c.deref-2.ensures.value,
-  c.in_ok-held.ensures.len,
-  c.in_ok-others.ensures.len,
-)
+shortest_way-requires-clause-as_many c = omega (arith, long c.deref.ensures.value, long c.deref-2.ensures.value, c.in_ok-held.ensures.len, c.in_ok-others.ensures.len)
 
 pub shortest_way-requires-clause-long : goal.shortest_way-requires-clause-long
-shortest_way-requires-clause-long c = omega (arith, ap (λ (bs : List Bool). length bs) c.deref-2.ensures.value, c.in_ok-others.ensures.len)
+shortest_way-requires-clause-long c = omega (arith, long c.deref-2.ensures.value, c.in_ok-others.ensures.len)
 
 pub shortest_way-requires-clause-within : goal.shortest_way-requires-clause-within
 shortest_way-requires-clause-within c = λ i m.
     let within = refs_within c.args.members.now false c.requires.right i m in
-    omega (arith, within, ap (λ (bs : List Bool). length bs) c.deref-2.ensures.value, c.in_ok-others.ensures.len)
+    omega (arith, within, long c.deref-2.ensures.value, c.in_ok-others.ensures.len)
 
 pub returns-clause-found : goal.returns-clause-found
 returns-clause-found c =

@@ -1,9 +1,9 @@
 use Rattle.std.proofs.Common.{sym, ◌∙◌, ap, subst, List, ℕ, length, ◌++◌}
 use Rattle.cg_snapshot.specs.Text.{AreMembers}
+use Rattle.cg_snapshot.proofs.DistinctRows.{if_some}
 use Rattle.cg_ask.specs.Asked.{IsShortest}
 use Rattle.cg_ask.specs.Answers.{way_text}
 use Rattle.cg_ask.proofs.Answering.{reason_path}
-use Rattle.cg_ask.proofs.FaultsOfHeaps.{if_some}
 use Rattle.cg_ask.proofs.Marking.{members_of}
 use Rattle.cg_ask.proofs.Reaching.{path_members}
 use Rattle.cg_ask.proofs.why.put_why.Goals as goal
