@@ -7,7 +7,7 @@ ghost use Rattle.cg_io.specs.Adapters.{WriterInUse};
 
 use crate::read_source::TRIES;
 use crate::{Sink, WriteFailed};
-use std::io::{ErrorKind, Write};
+use std::io::{Error, ErrorKind, Write};
 use std::marker::Model;
 
 /// Any writer, with a count of its faults. Over `std::io::Write`.
@@ -35,25 +35,40 @@ impl<W: Write + Drop> WriteSink<W> {
     }
 }
 
-/// Writes a prefix of the bytes, and retries if the writer was interrupted.
-fn write_patiently<W: Write>(inner: &mut W, bytes: &[u8]) -> Result<usize, WriteFailed>
+/// Writes a prefix of the bytes, after a first try that failed. Retries while the writer is
+/// interrupted.
+#[inline(never)]
+fn write_again<W: Write>(inner: &mut W, bytes: &[u8], first: Error) -> Result<usize, WriteFailed>
     ensures bound { WritesAtMost result bytes.now }
     ensures bytes { WriteAppends (W.contents inner.old) (W.contents inner.new) result bytes.now }
 {
-    'tries: for _attempt in 0..TRIES {
+    let mut error = first;
+    'tries: for _attempt in 1..TRIES {
+        if error.kind() != ErrorKind::Interrupted {
+            break;
+        }
         match inner.write(bytes) {
             Ok(n) => return Ok(n),
-            Err(e) => {
-                if e.kind() != ErrorKind::Interrupted {
-                    break;
-                }
-            }
+            Err(e) => error = e,
         }
     }
     Err(WriteFailed)
 }
 
+/// Writes a prefix of the bytes, and retries if the writer was interrupted.
+#[inline(always)]
+fn write_patiently<W: Write>(inner: &mut W, bytes: &[u8]) -> Result<usize, WriteFailed>
+    ensures bound { WritesAtMost result bytes.now }
+    ensures bytes { WriteAppends (W.contents inner.old) (W.contents inner.new) result bytes.now }
+{
+    match inner.write(bytes) {
+        Ok(n) => Ok(n),
+        Err(e) => write_again(inner, bytes, e),
+    }
+}
+
 /// Writes all of the bytes, prefix by prefix.
+#[inline(always)]
 fn write_fronts<W: Write>(inner: &mut W, bytes: &[u8]) -> Result<(), WriteFailed>
     ensures ok { OnOk result (Appends (W.contents inner.old) (W.contents inner.new) bytes.now) }
     ensures err { OnErr result (AppendsFront (W.contents inner.old) (W.contents inner.new)
@@ -62,6 +77,9 @@ fn write_fronts<W: Write>(inner: &mut W, bytes: &[u8]) -> Result<(), WriteFailed
     let mut rest = bytes;
     'fronts: while !rest.is_empty() {
         let n = write_patiently(inner, rest)?;
+        if n == rest.len() {
+            break;
+        }
         if n == 0 {
             return Err(WriteFailed);
         }
@@ -78,6 +96,7 @@ impl<W: Write + Drop> Sink for WriteSink<W> {
     /// Writes the bytes to the writer, in as many calls as it takes. A write that returns
     /// `Interrupted` is retried, at most 100 times (`Write::write_all` retries without limit). Any
     /// other error, one more `Interrupted`, or a write of zero bytes is a fault.
+    #[inline(always)]
     fn write(&mut self, bytes: &[u8]) -> Result<(), WriteFailed>
         ensures ok { OnOk result (Appends None None bytes.now) }
         ensures err { OnErr result (AppendsFront None None bytes.now) }

@@ -1,5 +1,5 @@
 //! The line of each event.
-ghost use Rattle.std.specs.Prelude.{◌≡◌, ◌+◌, ◌≤◌, ◌++◌, [], length, codes};
+ghost use Rattle.std.specs.Prelude.{◌≡◌, ◌+◌, ◌≤◌, ◌++◌, [], length, codes, decimal};
 ghost use Rattle.cg_machine.specs.Lines.{line, words_of, IsPrintable, IsPrintableValue, kind_text, sort_text, yes_or_no, serial_text, number_text, value_text};
 
 use crate::event::{Event, FrameSort};
@@ -25,6 +25,7 @@ pub fn line_of(event: &Event, names: &Names) -> LineText
 }
 
 /// Writes the line that `line_of` answers into an empty text, which saves a copy.
+#[inline(always)]
 pub fn push_line(text: &mut LineText, event: &Event, names: &Names)
     requires empty { text.old.bytes ≡ [] }
     requires printable { IsPrintable names.now event.now }
@@ -46,13 +47,13 @@ fn push_words(text: &mut ArrayString<ROOM>, event: &Event, names: &Names)
         Event::Made { code, serial } => made(text, *code, *serial),
         Event::Enter { sort, serial } => enter(text, *sort, *serial),
         Event::Leave => plain(text, "leave"),
-        Event::Cleared(serial) => about(text, "cleared", *serial),
-        Event::Free(serial) => about(text, "free", *serial),
-        Event::Alive(serial) => about(text, "alive", *serial),
+        Event::Cleared(serial) => about(text, "cleared #", *serial),
+        Event::Free(serial) => about(text, "free #", *serial),
+        Event::Alive(serial) => about(text, "alive #", *serial),
         Event::GcStart(generation) => counted(text, "gc start", u64::from(*generation)),
-        Event::GcCollectable(serial) => about(text, "gc collectable", *serial),
-        Event::GcUncollectable(serial) => about(text, "gc uncollectable", *serial),
-        Event::GcSaved(serial) => about(text, "gc saved", *serial),
+        Event::GcCollectable(serial) => about(text, "gc collectable #", *serial),
+        Event::GcUncollectable(serial) => about(text, "gc uncollectable #", *serial),
+        Event::GcSaved(serial) => about(text, "gc saved #", *serial),
         Event::GcStop {
             generation,
             collected,
@@ -69,11 +70,11 @@ fn push_words(text: &mut ArrayString<ROOM>, event: &Event, names: &Names)
         Event::RefCount(number) => counted(text, "refs", *number),
         Event::Tracked(answer) => answered(text, "tracked ", *answer),
         Event::Finalized(answer) => answered(text, "finalized ", *answer),
-        Event::Referent(serial) => about(text, "referent", *serial),
-        Event::Referrer(serial) => about(text, "referrer", *serial),
+        Event::Referent(serial) => about(text, "referent #", *serial),
+        Event::Referrer(serial) => about(text, "referrer #", *serial),
         Event::Listed(number) => counted(text, "listed", *number),
-        Event::Held(serial) => about(text, "held", *serial),
-        Event::Via(serial) => about(text, "via", *serial),
+        Event::Held(serial) => about(text, "held #", *serial),
+        Event::Via(serial) => about(text, "via #", *serial),
         Event::Unreachable => plain(text, "unreachable"),
         Event::Count { zero, one, two } => three(text, "count", *zero, *one, *two),
         Event::Gens {
@@ -101,11 +102,11 @@ fn plain(text: &mut ArrayString<ROOM>, words: &str)
 fn about(text: &mut ArrayString<ROOM>, words: &str, serial: u64)
     requires empty { text.old.bytes ≡ [] }
     requires few { length words.now ≤ 100 }
-    ensures bytes { text.new.bytes ≡ words.now ++ serial_text serial }
+    ensures bytes { text.new.bytes ≡ words.now ++ decimal serial }
     ensures short { length text.new.bytes ≤ 200 }
 {
-    plain(text, words);
-    push_serial(text, serial);
+    text.push_str(words);
+    text.push_str(Buffer::new().format(serial));
 }
 
 fn counted(text: &mut ArrayString<ROOM>, words: &str, number: u64)
@@ -156,9 +157,7 @@ fn made(text: &mut ArrayString<ROOM>, code: KindCode, serial: u64)
     ensures bytes { text.new.bytes ≡ codes "made " ++ kind_text code ++ serial_text serial }
     ensures short { length text.new.bytes ≤ 200 }
 {
-    plain(text, "made ");
-    text.push_str(kind_word(code));
-    push_serial(text, serial);
+    about(text, made_words(code), serial);
 }
 
 fn enter(text: &mut ArrayString<ROOM>, sort: FrameSort, serial: u64)
@@ -166,9 +165,7 @@ fn enter(text: &mut ArrayString<ROOM>, sort: FrameSort, serial: u64)
     ensures bytes { text.new.bytes ≡ codes "enter " ++ sort_text sort ++ serial_text serial }
     ensures short { length text.new.bytes ≤ 200 }
 {
-    plain(text, "enter ");
-    text.push_str(sort_word(sort));
-    push_serial(text, serial);
+    about(text, enter_words(sort), serial);
 }
 
 fn printed(text: &mut ArrayString<ROOM>, value: Val, names: &Names)
@@ -192,40 +189,30 @@ fn printed(text: &mut ArrayString<ROOM>, value: Val, names: &Names)
     }
 }
 
-fn kind_word(code: KindCode) -> &'static str
-    ensures word { result.now ≡ kind_text code }
-    ensures short { length result.now ≤ 8 }
+fn made_words(code: KindCode) -> &'static str
+    ensures words { result.now ≡ codes "made " ++ kind_text code ++ codes " #" }
+    ensures few { length result.now ≤ 100 }
 {
     match code {
-        KindCode::List => "list",
-        KindCode::Tuple => "tuple",
-        KindCode::Dict => "dict",
-        KindCode::Inst => "instance",
-        KindCode::Func => "function",
-        KindCode::Weak => "weakref",
+        KindCode::List => "made list #",
+        KindCode::Tuple => "made tuple #",
+        KindCode::Dict => "made dict #",
+        KindCode::Inst => "made instance #",
+        KindCode::Func => "made function #",
+        KindCode::Weak => "made weakref #",
     }
 }
 
-fn sort_word(sort: FrameSort) -> &'static str
-    ensures word { result.now ≡ sort_text sort }
-    ensures short { length result.now ≤ 8 }
+fn enter_words(sort: FrameSort) -> &'static str
+    ensures words { result.now ≡ codes "enter " ++ sort_text sort ++ codes " #" }
+    ensures few { length result.now ≤ 100 }
 {
     match sort {
-        FrameSort::Del => "del",
-        FrameSort::Legacy => "legacy",
-        FrameSort::Callback => "callback",
-        FrameSort::Call => "call",
+        FrameSort::Del => "enter del #",
+        FrameSort::Legacy => "enter legacy #",
+        FrameSort::Callback => "enter callback #",
+        FrameSort::Call => "enter call #",
     }
-}
-
-/// Appends ` #n`.
-fn push_serial(text: &mut ArrayString<ROOM>, serial: u64)
-    requires { length text.old.bytes + 50 ≤ ROOM }
-    ensures appended { text.new.bytes ≡ text.old.bytes ++ serial_text serial }
-    ensures room { length text.new.bytes ≤ length text.old.bytes + 42 }
-{
-    text.push_str(" #");
-    text.push_str(Buffer::new().format(serial));
 }
 
 /// Appends ` n`.

@@ -1,5 +1,5 @@
 use Rattle.std.specs.Io.KnownBytes.{Keeps}
-use Rattle.cg_io.proofs.write_sink.write_patiently.Given as goal
+use Rattle.cg_io.proofs.write_sink.write_again.Given as goal
 
 -- an interrupted write wrote nothing
 abbrev pub invariant-tries : goal.invariant-tries
