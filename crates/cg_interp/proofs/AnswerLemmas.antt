@@ -37,7 +37,8 @@ use Rattle.cg_interp.specs.declared.caller.Caller.{Caller}
 use Rattle.cg_interp.specs.declared.turned.Turned.{Turned}
 use Rattle.cg_death.specs.declared.release.Release.{Release}
 use Rattle.cg_death.specs.Activities.{references_left}
-use Rattle.cg_interp.specs.Callers.{Changes, releasing, call_of, caller_activity, caller_locals, GivesUp, RunsTo, IsAtCommand, IsPerformed, StaysKeptAfter}
+use Rattle.cg_interp.specs.Callers.{Changes, releasing, call_of, caller_activity, caller_locals, GivesUp, RunsTo, ChangesOn, Tells, TellsTo, IsAtCommand, IsPerformed, StaysKeptAfter}
+use Rattle.cg_interp.specs.Quietly.{ComesTo}
 use Rattle.cg_interp.specs.Turns.{StaysSound}
 use Rattle.cg_interp.proofs.CallerLemmas.{same_engine}
 use Rattle.cg_interp.proofs.LawsOfEngines.{stays_sound}
@@ -128,9 +129,19 @@ change_stands script top e given_up release after is changes = record {
 
 -- the result of a change, after it gave up what it gives up
 pub runs_to : (script : Script) (w : World) (command : Command) (top : Own) (e : State) (line : Option Event) (changed : World) → CommandStep script w command (option_to_list line) changed
-    → (result : Option Turned) → GivesUp script changed top e line result → RunsTo script w command top e result
-runs_to script w command top e line changed may None (none, comes) = record { changed = changed; may = subst (λ l. CommandStep script w command (option_to_list l) changed) none may; comes = comes }
+    → (result : Option Turned) → GivesUp script changed top e line result → RunsTo script w command top e (option_to_list line) result
+runs_to script w command top e line changed may None comes = record { changed = changed; may = may; comes = comes }
 runs_to script w command top e line changed may (Some answer) (is, comes) = inr (inr (record { line = line; is = is; changes = record { changed = changed; may = may; comes = comes } }))
+
+-- the same after its line was told
+pub tells_to : (script : Script) (w : World) (command : Command) (top : Own) (mid e : State) (line : Option Event) (waits now : List Event) (result : Option Turned)
+    → ChangesOn script w command (option_to_list line) (under top mid)
+    → ((s : Script) (v : World) → ComesTo s v (under top mid) → Tells s v top e line waits now result) → TellsTo script w command top e waits now result
+tells_to script w command top mid e line waits now None changes tells =
+    let (is, comes) = tells script changes.changed changes.comes in (option_to_list line, is, record { changed = changes.changed; may = changes.may; comes = comes })
+tells_to script w command top mid e line waits now (Some answer) changes tells =
+    let (is, comes) = tells script changes.changed changes.comes in
+    inr (inr (record { line = line; is = is; changes = record { changed = changes.changed; may = changes.may; comes = comes } }))
 
 -- A command prints lines that the machine may print: its world is as before, with an empty release on top.
 pub record Told (script : Script) (top : Own) (e : State) (w : World) (command : Command) (lines : List Event) : Type 0 where
@@ -174,7 +185,7 @@ module _ (script : Script) (e : State) (top : Own) (w : World) (command : Comman
     -- and the command comes to what that comes to
     pub change_runs : (new : State) (result : Option Turned) → ((s : Script) (after : World) → Changes s top e given_up after
         → StaysSound s (releasing given_up after) → GivesUp s (releasing given_up after) top new line result)
-        → RunsTo script w command top new result
+        → RunsTo script w command top new (option_to_list line) result
     change_runs new result gives_up = runs_to script w command top new line (releasing given_up left) left_may result (gives_up script left changed left_sound)
 
   -- if heap and policy are as before, the engine represents the same world

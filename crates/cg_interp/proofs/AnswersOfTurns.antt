@@ -11,7 +11,7 @@ use Rattle.cg_interp.specs.declared.turned.Turned.{Turned}
 use Rattle.cg_interp.specs.declared.turned.Turned.TheVariants as turned
 use Rattle.cg_interp.specs.Engines.{State, StandsFor}
 use Rattle.cg_interp.specs.Turns.{Turns, GoesTo, RunEndsWith, Makes}
-use Rattle.cg_interp.specs.Telling.{TurnsWith, GoesOnTo}
+use Rattle.cg_interp.specs.Telling.{TurnsWith, TurnsAfter, GoesOnTo}
 
 -- A transition that the machine reached answers a turn.
 module _ (script : Script) (w : World) (e : State) (t : Transition) (goes : Goes script w t.0 t.1) where
@@ -66,9 +66,9 @@ moving script may_rest w left told e goes = record {
   stands = goes.stands;
 }
 
-pub turns_moving : (script : Script) (may_rest : List Event → Type 0) (w : World) (left : List Event) (e : State) (answer : Turned)
-    → TurnsWith script (λ still. ⊥) w left e answer → TurnsWith script may_rest w left e answer
-turns_moving script may_rest w left e turned.Quiet turns = moving script may_rest w left [] e turns
-turns_moving script may_rest w left e (turned.Line event) turns = moving script may_rest w left (event ∷ []) e turns
-turns_moving script may_rest w left e (turned.Lines events) turns = moving script may_rest w left events e turns
-turns_moving script may_rest w left e _ turns = turns
+pub turns_moving : (waits : List Event) (script : Script) (may_rest : List Event → Type 0) (w : World) (left : List Event) (e : State) (answer : Turned)
+    → TurnsAfter script (λ still. ⊥) w left e waits answer → TurnsAfter script may_rest w left e waits answer
+turns_moving waits script may_rest w left e turned.Quiet turns = moving script may_rest w left (waits ++ []) e turns
+turns_moving waits script may_rest w left e (turned.Line event) turns = moving script may_rest w left (waits ++ event ∷ []) e turns
+turns_moving waits script may_rest w left e (turned.Lines events) turns = moving script may_rest w left (waits ++ events) e turns
+turns_moving waits script may_rest w left e _ turns = turns

@@ -23,7 +23,7 @@ use Rattle.cg_interp.specs.declared.turned.Standing.{Standing}
 use Rattle.cg_interp.specs.declared.turned.Standing.TheVariants as standing
 use Rattle.cg_interp.specs.Engines.{State, StandsFor}
 use Rattle.cg_interp.specs.Collecting.{StandsWith}
-use Rattle.cg_interp.specs.Telling.{TurnsWith, Advances, GoesOnTo, IsAtAnyTurn}
+use Rattle.cg_interp.specs.Telling.{TurnsAfter, Advances, GoesOnTo, IsAtAnyTurn}
 use Rattle.cg_interp.specs.Turns.{RunEndsWith, IsFit}
 use Rattle.cg_interp.specs.Running.{HasLaws, events_told, standing_after}
 use Rattle.cg_laws.specs.Kept.{StaysKept}
@@ -111,11 +111,12 @@ told_known b s t e same = ap Some same ∙ ap (λ k. cond k None (Some s)) (sym 
 
 -- a turn, with what was written before and after it
 module _ (script : Script) (old : State) (unfinished : Bool) (w : World) (l : List Event) (e : State) (before mid now : Option (List ℕ)) (d : Option Detection)
-    (is : d ≡ recorded_next unfinished old) (answer : Turned)
-    (turns : TurnsWith script (Advances old l e) w l e answer) (begun : Appends before mid (text_before script old.store unfinished d)) where
-  pub records_turn : (then : Bool) (told : Option Standing) → told ≡ told_after answer → then ≡ unfinished_after unfinished d
+    (is : d ≡ recorded_next unfinished old) (waits : List Event) (answer : Turned)
+    (turns : TurnsAfter script (Advances old l e) w l e waits answer) (begun : Appends before mid (text_before script old.store unfinished d)) where
+  pub records_turn : (then : Bool) (told : Option Standing) → told ≡ told_after waits answer → then ≡ unfinished_after unfinished d
       → Appends mid now (text_after e.store d) → RecordsTurn script old unfinished w l e then told before now
   records_turn then told tells still found = record {
+    waits = waits;
     answer = answer;
     is = tells;
     turns = turns;
@@ -125,17 +126,18 @@ module _ (script : Script) (old : State) (unfinished : Bool) (w : World) (l : Li
 
   pub cuts_findings : AppendsFront mid now (text_after e.store d) → CutsRecord script old unfinished w l e before now
   cuts_findings part = inr (record {
+    waits = waits;
     answer = answer;
     turns = turns;
     written = subst (λ k. AppendsFront before now (text_of_turn script old.store e.store unfinished k)) is (after_front before mid now _ _ begun part);
   })
 
 -- the same in every world that the engine represents
-pub cuts_all : (script : Script) (old : State) (unfinished : Bool) (e : State) (before mid now : Option (List ℕ)) (d : Option Detection) → d ≡ recorded_next unfinished old → (answer : Turned)
-    → ((w : World) (l : List Event) → StandsWith script old l w → StaysKept script old.first_budget w → TurnsWith script (Advances old l e) w l e answer)
+pub cuts_all : (script : Script) (old : State) (unfinished : Bool) (e : State) (before mid now : Option (List ℕ)) (d : Option Detection) → d ≡ recorded_next unfinished old → (waits : List Event) (answer : Turned)
+    → ((w : World) (l : List Event) → StandsWith script old l w → StaysKept script old.first_budget w → TurnsAfter script (Advances old l e) w l e waits answer)
     → Appends before mid (text_before script old.store unfinished d) → AppendsFront mid now (text_after e.store d)
     → (w : World) (l : List Event) → StandsWith script old l w → StaysKept script old.first_budget w → CutsRecord script old unfinished w l e before now
-cuts_all script old unfinished e before mid now d is answer turns begun part w l stands kept = cuts_findings script old unfinished w l e before mid now d is answer (turns w l stands kept) begun part
+cuts_all script old unfinished e before mid now d is waits answer turns begun part w l stands kept = cuts_findings script old unfinished w l e before mid now d is waits answer (turns w l stands kept) begun part
 
 -- What was recorded so far, and the laws.
 module _ (law : NoRunIsStuck) (script : Script) (budget : ℕ) (before : Option (List ℕ)) (e : State) (unfinished : Bool) (now : Option (List ℕ))
@@ -302,8 +304,8 @@ module _ (law : NoRunIsStuck) (script : Script) (budget : ℕ) (before : Option 
     abbrev Wrote : Type 0
     Wrote = Appends now now' (text_of_turn script e.store e'.store unfinished (recorded_next unfinished e))
 
-    abbrev Turned_so : Turned → Type 0
-    Turned_so answer = TurnsWith script (Advances e left e') so_far left e' answer
+    abbrev Turned_so : List Event → Turned → Type 0
+    Turned_so waits answer = TurnsAfter script (Advances e left e') so_far left e' waits answer
 
     here : (told : Option Standing) → Recorded told → RecordsTurn script e unfinished so_far left e' then told now now'
     here told t = t so_far left so.ran.stands kept
@@ -317,18 +319,18 @@ module _ (law : NoRunIsStuck) (script : Script) (budget : ℕ) (before : Option 
     pub recorded_on : (told : Option Standing) → told ≡ Some standing.Running → Recorded told → RecordedSo script budget before e' then now'
     recorded_on told is t =
         let h = here told t in
-        let (none, stands) = told_some (list_any wants_memory (events_told h.answer)) (standing_after h.answer) standing.Running (sym h.is ∙ is) in
-        go h.answer stands none h.turns h.still h.written
+        let (none, stands) = told_some (list_any wants_memory (h.waits ++ events_told h.answer)) (standing_after h.answer) standing.Running (sym h.is ∙ is) in
+        go h.waits h.answer stands none h.turns h.still h.written
       where
         on : (tell : List Event) → list_any wants_memory tell ≡ false → GoesOnTo script (Advances e left e') so_far left tell e' → Still → Wrote → RecordedSo script budget before e' then now'
         on tell none g still wrote = so_longer e' now' g.events g.after g.goes (on_shown tell g) tell g.still g.lines g.stands none then still wrote
 
-        go : (answer : Turned) → standing_after answer ≡ standing.Running → list_any wants_memory (events_told answer) ≡ false → Turned_so answer → Still → Wrote
+        go : (waits : List Event) (answer : Turned) → standing_after answer ≡ standing.Running → list_any wants_memory (waits ++ events_told answer) ≡ false → Turned_so waits answer → Still → Wrote
             → RecordedSo script budget before e' then now'
-        go turned.Quiet s none g still wrote = on [] none g still wrote
-        go (turned.Line event) s none g still wrote = on (event ∷ []) none g still wrote
-        go (turned.Lines events) s none g still wrote = on events none g still wrote
-        go _ s none g still wrote = absurd (cc)
+        go waits turned.Quiet s none g still wrote = on (waits ++ []) none g still wrote
+        go waits (turned.Line event) s none g still wrote = on (waits ++ event ∷ []) none g still wrote
+        go waits (turned.Lines events) s none g still wrote = on (waits ++ events) none g still wrote
+        go waits _ s none g still wrote = absurd (cc)
 
     -- the run has ended, and the end of the records is written
     module _ (now'' : Option (List ℕ)) (end : Appends now' now'' (closing then ++ codes "end\n")) where
@@ -338,47 +340,47 @@ module _ (law : NoRunIsStuck) (script : Script) (budget : ℕ) (before : Option 
           k.ended over unrefused then still wrote now'' end
 
       pub recorded_to_end : (told : Option Standing) → told ≡ Some standing.Ended → Recorded told → WroteRecords script budget Ended before now''
-      recorded_to_end told is t = let h = here told t in go h.answer (told_some _ _ _ (sym h.is ∙ is)).1 h.turns h.still h.written
+      recorded_to_end told is t = let h = here told t in go h.waits h.answer (told_some _ _ _ (sym h.is ∙ is)).1 (told_some _ _ _ (sym h.is ∙ is)).0 h.turns h.still h.written
         where
-          go : (answer : Turned) → standing_after answer ≡ standing.Ended → Turned_so answer → Still → Wrote → WroteRecords script budget Ended before now''
-          go turned.Ended s (none, k) still wrote = ends (End ∷ []) Ended (λ n. cc) refl none k still wrote
-          go (turned.Left n) s (none, k) still wrote = ends (Left n ∷ End ∷ []) Ended (λ m. cc) refl none k still wrote
-          go _ s g still wrote = absurd (cc)
+          go : (waits : List Event) (answer : Turned) → standing_after answer ≡ standing.Ended → list_any wants_memory (waits ++ events_told answer) ≡ false → Turned_so waits answer → Still → Wrote → WroteRecords script budget Ended before now''
+          go waits turned.Ended s unrefused (none, k) still wrote = ends (waits ++ End ∷ []) Ended (λ n. cc) unrefused none k still wrote
+          go waits (turned.Left n) s unrefused (none, k) still wrote = ends (waits ++ Left n ∷ End ∷ []) Ended (λ m. cc) unrefused none k still wrote
+          go waits _ s unrefused g still wrote = absurd (cc)
 
       pub recorded_out : (told : Option Standing) → told ≡ Some standing.Spent → Recorded told → WroteRecords script budget BudgetIsSpent before now''
-      recorded_out told is t = let h = here told t in go h.answer (told_some _ _ _ (sym h.is ∙ is)).1 h.turns h.still h.written
+      recorded_out told is t = let h = here told t in go h.waits h.answer (told_some _ _ _ (sym h.is ∙ is)).1 (told_some _ _ _ (sym h.is ∙ is)).0 h.turns h.still h.written
         where
-          go : (answer : Turned) → standing_after answer ≡ standing.Spent → Turned_so answer → Still → Wrote → WroteRecords script budget BudgetIsSpent before now''
-          go turned.Spent s (none, k) still wrote = ends (BudgetSpent ∷ []) BudgetIsSpent (λ n. cc) refl none k still wrote
-          go _ s g still wrote = absurd (cc)
+          go : (waits : List Event) (answer : Turned) → standing_after answer ≡ standing.Spent → list_any wants_memory (waits ++ events_told answer) ≡ false → Turned_so waits answer → Still → Wrote → WroteRecords script budget BudgetIsSpent before now''
+          go waits turned.Spent s unrefused (none, k) still wrote = ends (waits ++ BudgetSpent ∷ []) BudgetIsSpent (λ n. cc) unrefused none k still wrote
+          go waits _ s unrefused g still wrote = absurd (cc)
 
     -- or a prefix of it
     pub recorded_end_cut : (told : Option Standing) (s : Standing) → told ≡ Some s → s ≢ standing.Running → Recorded told → (now'' : Option (List ℕ))
         → AppendsFront now' now'' (closing then ++ codes "end\n") → WroteRecordsPart script budget before now''
-    recorded_end_cut told s is over t now'' end = let h = here told t in go h.answer ((told_some _ _ _ (sym h.is ∙ is)).1) h.turns h.still h.written
+    recorded_end_cut told s is over t now'' end = let h = here told t in go h.waits h.answer ((told_some _ _ _ (sym h.is ∙ is)).1) h.turns h.still h.written
       where
         ends : (lines : List Event) (outcome : Outcome) → outcome ≢ Running → RunEndsWith script so_far lines outcome → Still → Wrote → WroteRecordsPart script budget before now''
         ends lines outcome ended k still wrote = end_longer e' now' lines k.after k.goes (end_shown lines outcome ended k) then still wrote now'' (λ r. ended (sym k.ended ∙ r)) end
 
-        go : (answer : Turned) → standing_after answer ≡ s → Turned_so answer → Still → Wrote → WroteRecordsPart script budget before now''
-        go turned.Ended e (none, k) still wrote = ends (End ∷ []) Ended (λ n. cc) k still wrote
-        go (turned.Left n) e (none, k) still wrote = ends (Left n ∷ End ∷ []) Ended (λ m. cc) k still wrote
-        go turned.Spent e (none, k) still wrote = ends (BudgetSpent ∷ []) BudgetIsSpent (λ n. cc) k still wrote
-        go _ e g still wrote = absurd (over (sym e))
+        go : (waits : List Event) (answer : Turned) → standing_after answer ≡ s → Turned_so waits answer → Still → Wrote → WroteRecordsPart script budget before now''
+        go waits turned.Ended e (none, k) still wrote = ends (waits ++ End ∷ []) Ended (λ n. cc) k still wrote
+        go waits (turned.Left n) e (none, k) still wrote = ends (waits ++ Left n ∷ End ∷ []) Ended (λ m. cc) k still wrote
+        go waits turned.Spent e (none, k) still wrote = ends (waits ++ BudgetSpent ∷ []) BudgetIsSpent (λ n. cc) k still wrote
+        go waits _ e g still wrote = absurd (over (sym e))
 
     -- a prefix of any turn's records
-    turned_cut : (answer : Turned) → Turned_so answer → AppendsFront now now' (text_of_turn script e.store e'.store unfinished (recorded_next unfinished e))
+    turned_cut : (waits : List Event) (answer : Turned) → Turned_so waits answer → AppendsFront now now' (text_of_turn script e.store e'.store unfinished (recorded_next unfinished e))
         → WroteRecordsPart script budget before now'
-    turned_cut turned.Quiet g wrote = cut_longer e' now' g.events g.after g.goes (on_shown [] g) wrote
-    turned_cut (turned.Line event) g wrote = cut_longer e' now' g.events g.after g.goes (on_shown (event ∷ []) g) wrote
-    turned_cut (turned.Lines events) g wrote = cut_longer e' now' g.events g.after g.goes (on_shown events g) wrote
-    turned_cut turned.Ended (none, k) wrote = cut_longer e' now' (End ∷ []) k.after k.goes (end_shown (End ∷ []) Ended (λ n. cc) k) wrote
-    turned_cut (turned.Left n) (none, k) wrote = cut_longer e' now' (Left n ∷ End ∷ []) k.after k.goes (end_shown (Left n ∷ End ∷ []) Ended (λ m. cc) k) wrote
-    turned_cut turned.Spent (none, k) wrote = cut_longer e' now' (BudgetSpent ∷ []) k.after k.goes (end_shown (BudgetSpent ∷ []) BudgetIsSpent (λ n. cc) k) wrote
+    turned_cut waits turned.Quiet g wrote = cut_longer e' now' g.events g.after g.goes (on_shown (waits ++ []) g) wrote
+    turned_cut waits (turned.Line event) g wrote = cut_longer e' now' g.events g.after g.goes (on_shown (waits ++ event ∷ []) g) wrote
+    turned_cut waits (turned.Lines events) g wrote = cut_longer e' now' g.events g.after g.goes (on_shown (waits ++ events) g) wrote
+    turned_cut waits turned.Ended (none, k) wrote = cut_longer e' now' (waits ++ End ∷ []) k.after k.goes (end_shown (waits ++ End ∷ []) Ended (λ n. cc) k) wrote
+    turned_cut waits (turned.Left n) (none, k) wrote = cut_longer e' now' (waits ++ Left n ∷ End ∷ []) k.after k.goes (end_shown (waits ++ Left n ∷ End ∷ []) Ended (λ m. cc) k) wrote
+    turned_cut waits turned.Spent (none, k) wrote = cut_longer e' now' (waits ++ BudgetSpent ∷ []) k.after k.goes (end_shown (waits ++ BudgetSpent ∷ []) BudgetIsSpent (λ n. cc) k) wrote
 
     -- a command was refused for memory
     pub recorded_refused : (told : Option Standing) → Recorded told → WroteRecordsPart script budget before now'
-    recorded_refused told t = let h = here told t in turned_cut h.answer h.turns (all_front now now' _ h.written)
+    recorded_refused told t = let h = here told t in turned_cut h.waits h.answer h.turns (all_front now now' _ h.written)
 
     -- a line was cut off
     pub recorded_cut : ((w : World) (l : List Event) → StandsWith script e l w → StaysKept script e.first_budget w → CutsRecord script e unfinished w l e' now
@@ -387,17 +389,17 @@ module _ (law : NoRunIsStuck) (script : Script) (budget : ℕ) (before : Option 
       where
         by : CutsRecord script e unfinished so_far left e' now now' → WroteRecordsPart script budget before now'
         by (inl wrote) = cut_before now' listed wrote
-        by (inr t) = turned_cut t.answer t.turns t.written
+        by (inr t) = turned_cut t.waits t.answer t.turns t.written
 
     -- Each turn that goes on lowers the number.
     pub recorded_falls : (told : Option Standing) → IsSmall e'.store → told ≡ Some standing.Running → Recorded told → falling script e' < falling script e
-    recorded_falls told small is t = let h = here told t in go h.answer ((told_some _ _ _ (sym h.is ∙ is)).1) h.turns
+    recorded_falls told small is t = let h = here told t in go h.waits h.answer ((told_some _ _ _ (sym h.is ∙ is)).1) h.turns
       where
         falls : (tell : List Event) → GoesOnTo script (Advances e left e') so_far left tell e' → falling script e' < falling script e
         falls tell turn = turn_falls script e e' so_far left tell so.ran.stands (sound_after script (opening script budget) so.ran.steps (opening_sound script budget) so.ran.run) small turn
 
-        go : (answer : Turned) → standing_after answer ≡ standing.Running → Turned_so answer → falling script e' < falling script e
-        go turned.Quiet s g = falls [] g
-        go (turned.Line event) s g = falls (event ∷ []) g
-        go (turned.Lines events) s g = falls events g
-        go _ s g = absurd (cc)
+        go : (waits : List Event) (answer : Turned) → standing_after answer ≡ standing.Running → Turned_so waits answer → falling script e' < falling script e
+        go waits turned.Quiet s g = falls (waits ++ []) g
+        go waits (turned.Line event) s g = falls (waits ++ event ∷ []) g
+        go waits (turned.Lines events) s g = falls (waits ++ events) g
+        go waits _ s g = absurd (cc)

@@ -29,7 +29,7 @@ use Rattle.cg_interp.specs.declared.turned.Standing.{Standing}
 use Rattle.cg_interp.specs.declared.turned.Standing.TheVariants as standing
 use Rattle.cg_interp.specs.Engines.{State, StandsFor}
 use Rattle.cg_interp.specs.Collecting.{StandsWith}
-use Rattle.cg_interp.specs.Telling.{TurnsWith, Advances, GoesOnTo}
+use Rattle.cg_interp.specs.Telling.{TurnsAfter, Advances, GoesOnTo}
 use Rattle.cg_interp.specs.Written.{WroteRun, WrotePart}
 use Rattle.cg_interp.specs.Running.{Ran, HasLaws, MayWrite, MayRun, MayOpen, StaysPrintable, WritesTurn, CutsTurn, events_told, standing_after}
 use Rattle.cg_interp.proofs.Sizes.{IsSmall}
@@ -37,29 +37,34 @@ use Rattle.cg_interp.proofs.MeasureOfTurns.{falling, turn_falls}
 use Rattle.cg_interp.specs.Turns.{RunEndsWith, IsFit}
 use Rattle.cg_interp.proofs.LineByLine.{after_front, longer_front}
 
+-- where no line is left, all are told
+all_told : (left lines : List Event) → left ≡ [] → left ++ lines ≡ lines ++ []
+all_told left lines none = ap (λ l. l ++ lines) none ∙ sym (append-nil lines)
+
 -- A turn goes on: what it prints after the lines that were left is the answered event, and the lines that are left now.
-pub record Went (script : Script) (w : World) (left : List Event) (answer : Turned) : Type 0 where
+pub record Went (script : Script) (w : World) (left waits : List Event) (answer : Turned) : Type 0 where
   pub events : List Event
   pub after : World
   pub still : List Event
   pub goes : Goes script w events after
-  pub lines : left ++ events ≡ events_told answer ++ still
+  pub lines : left ++ events ≡ (waits ++ events_told answer) ++ still
 
-pub went : (script : Script) (may_rest : List Event → Type 0) (w : World) (left : List Event) (e : State) (answer : Turned) → TurnsWith script may_rest w left e answer → Went script w left answer
-went script may_rest w left e (turned.Lines events) t = record { events = t.events; after = t.after; still = t.still; goes = t.goes; lines = t.lines }
-went script may_rest w left e turned.Ended (none, t) = record { events = End ∷ []; after = t.after; still = []; goes = t.goes; lines = ap (λ l. l ++ End ∷ []) none }
-went script may_rest w left e (turned.Left n) (none, t) = record { events = Left n ∷ End ∷ []; after = t.after; still = []; goes = t.goes; lines = ap (λ l. l ++ Left n ∷ End ∷ []) none }
-went script may_rest w left e turned.Spent (none, t) = record { events = BudgetSpent ∷ []; after = t.after; still = []; goes = t.goes; lines = ap (λ l. l ++ BudgetSpent ∷ []) none }
-went script may_rest w left e _ t = record { events = t.events; after = t.after; still = t.still; goes = t.goes; lines = t.lines }
+pub went : (script : Script) (may_rest : List Event → Type 0) (w : World) (left : List Event) (e : State) (waits : List Event) (answer : Turned) → TurnsAfter script may_rest w left e waits answer
+    → Went script w left waits answer
+went script may_rest w left e waits (turned.Lines events) t = record { events = t.events; after = t.after; still = t.still; goes = t.goes; lines = t.lines }
+went script may_rest w left e waits turned.Ended (none, t) = record { events = _; after = t.after; still = []; goes = t.goes; lines = all_told left (waits ++ End ∷ []) none }
+went script may_rest w left e waits (turned.Left n) (none, t) = record { events = _; after = t.after; still = []; goes = t.goes; lines = all_told left (waits ++ Left n ∷ End ∷ []) none }
+went script may_rest w left e waits turned.Spent (none, t) = record { events = _; after = t.after; still = []; goes = t.goes; lines = all_told left (waits ++ BudgetSpent ∷ []) none }
+went script may_rest w left e waits _ t = record { events = t.events; after = t.after; still = t.still; goes = t.goes; lines = t.lines }
 
 -- so its line can be printed, if all lines can
-pub told_printable : (script : Script) (may_rest : List Event → Type 0) (w : World) (left : List Event) (e : State) (answer : Turned)
-    → TurnsWith script may_rest w left e answer → StaysPrintable script left w
-    → (event : Event) → Includes (events_told answer) event → IsPrintable script.names event
-told_printable script may_rest w left e answer turns all event m =
-    let g = went script may_rest w left e answer turns in
+pub told_printable : (script : Script) (may_rest : List Event → Type 0) (w : World) (left : List Event) (e : State) (waits : List Event) (answer : Turned)
+    → TurnsAfter script may_rest w left e waits answer → StaysPrintable script left w
+    → (event : Event) → Includes (waits ++ events_told answer) event → IsPrintable script.names event
+told_printable script may_rest w left e waits answer turns all event m =
+    let g = went script may_rest w left e waits answer turns in
     all g.goes.steps g.goes.run event
-    (subst (λ es. Includes (left ++ es) event) (sym g.goes.prints) (subst (λ es. Includes es event) (sym g.lines) (Includes-append_left (events_told answer) g.still event m)))
+    (subst (λ es. Includes (left ++ es) event) (sym g.goes.prints) (subst (λ es. Includes es event) (sym g.lines) (Includes-append_left (waits ++ events_told answer) g.still event m)))
 
 -- a prefix of what a run has printed is a prefix of the text of a whole run
 part_of_whole : FrontsBeginWholeTexts → (script : Script) (budget : ℕ) (steps : List StepTaken) (before now : Option (List ℕ)) → IsRun script budget steps
@@ -174,60 +179,60 @@ module _ (script : Script) (budget : ℕ) (before : Option (List ℕ)) (e : Stat
     abbrev pub Wrote : Standing → Type 0
     Wrote stands = (w : World) (left : List Event) → StandsWith script e left w → StaysKept script e.first_budget w → WritesTurn script e w left e' stands now now'
 
-    abbrev Turned_so : Turned → Type 0
-    Turned_so answer = TurnsWith script (Advances e ran.left e') so_far ran.left e' answer
+    abbrev Turned_so : List Event → Turned → Type 0
+    Turned_so waits answer = TurnsAfter script (Advances e ran.left e') so_far ran.left e' waits answer
 
-    abbrev Wrote_so : Turned → Type 0
-    Wrote_so answer = Appends now now' (text (events_told answer))
+    abbrev Wrote_so : List Event → Turned → Type 0
+    Wrote_so waits answer = Appends now now' (text (waits ++ events_told answer))
 
     pub ran_on : (stands : Standing) → stands ≡ standing.Running → Wrote stands → Ran script budget before e' now'
-    ran_on stands runs t = let h = t so_far ran.left ran.stands kept_so_far in go h.answer (h.is ∙ runs) h.turns h.written
+    ran_on stands runs t = let h = t so_far ran.left ran.stands kept_so_far in go h.waits h.answer (h.is ∙ runs) h.turns h.written
       where
         on : (told : List Event) → GoesOnTo script (Advances e ran.left e') so_far ran.left told e' → Appends now now' (text told) → Ran script budget before e' now'
         on told g wrote = ran_longer g.events told g.still g.after g.goes g.lines e' now' g.stands wrote
 
-        go : (answer : Turned) → standing_after answer ≡ standing.Running → Turned_so answer → Wrote_so answer → Ran script budget before e' now'
-        go turned.Quiet is g wrote = on [] g wrote
-        go (turned.Line event) is g wrote = on (event ∷ []) g wrote
-        go (turned.Lines events) is g wrote = on events g wrote
-        go _ is g wrote = absurd (cc)
+        go : (waits : List Event) (answer : Turned) → standing_after answer ≡ standing.Running → Turned_so waits answer → Wrote_so waits answer → Ran script budget before e' now'
+        go waits turned.Quiet is g wrote = on (waits ++ []) g wrote
+        go waits (turned.Line event) is g wrote = on (waits ++ event ∷ []) g wrote
+        go waits (turned.Lines events) is g wrote = on (waits ++ events) g wrote
+        go waits _ is g wrote = absurd (cc)
 
     pub ran_to_end : (stands : Standing) → stands ≡ standing.Ended → Wrote stands → WroteRun script budget Ended before now'
-    ran_to_end stands over t = let h = t so_far ran.left ran.stands kept_so_far in go h.answer (h.is ∙ over) h.turns h.written
+    ran_to_end stands over t = let h = t so_far ran.left ran.stands kept_so_far in go h.waits h.answer (h.is ∙ over) h.turns h.written
       where
         ends : (lines : List Event) → ran.left ≡ [] → RunEndsWith script so_far lines Ended → Appends now now' (text lines) → WroteRun script budget Ended before now'
         ends lines none k wrote = ran_whole lines lines [] k.after k.goes (ap (λ l. l ++ lines) none ∙ sym (append-nil lines)) Ended now' refl k.ended (λ n. cc) wrote
 
-        go : (answer : Turned) → standing_after answer ≡ standing.Ended → Turned_so answer → Wrote_so answer → WroteRun script budget Ended before now'
-        go turned.Ended is g wrote = ends (End ∷ []) g.0 g.1 wrote
-        go (turned.Left n) is g wrote = ends (Left n ∷ End ∷ []) g.0 g.1 wrote
-        go _ is g wrote = absurd (cc)
+        go : (waits : List Event) (answer : Turned) → standing_after answer ≡ standing.Ended → Turned_so waits answer → Wrote_so waits answer → WroteRun script budget Ended before now'
+        go waits turned.Ended is g wrote = ends (waits ++ End ∷ []) g.0 g.1 wrote
+        go waits (turned.Left n) is g wrote = ends (waits ++ Left n ∷ End ∷ []) g.0 g.1 wrote
+        go waits _ is g wrote = absurd (cc)
 
     pub ran_out : (stands : Standing) → stands ≡ standing.Spent → Wrote stands → WroteRun script budget BudgetIsSpent before now'
-    ran_out stands spent t = let h = t so_far ran.left ran.stands kept_so_far in go h.answer (h.is ∙ spent) h.turns h.written
+    ran_out stands spent t = let h = t so_far ran.left ran.stands kept_so_far in go h.waits h.answer (h.is ∙ spent) h.turns h.written
       where
-        go : (answer : Turned) → standing_after answer ≡ standing.Spent → Turned_so answer → Wrote_so answer → WroteRun script budget BudgetIsSpent before now'
-        go turned.Spent is (none, ends) wrote = ran_whole (BudgetSpent ∷ []) (BudgetSpent ∷ []) [] ends.after ends.goes (ap (λ l. l ++ BudgetSpent ∷ []) none)
+        go : (waits : List Event) (answer : Turned) → standing_after answer ≡ standing.Spent → Turned_so waits answer → Wrote_so waits answer → WroteRun script budget BudgetIsSpent before now'
+        go waits turned.Spent is (none, ends) wrote = ran_whole (waits ++ BudgetSpent ∷ []) (waits ++ BudgetSpent ∷ []) [] ends.after ends.goes (all_told ran.left (waits ++ BudgetSpent ∷ []) none)
             BudgetIsSpent now' refl ends.ended (λ n. cc) wrote
-        go _ is g wrote = absurd (cc)
+        go waits _ is g wrote = absurd (cc)
 
     -- a line was cut off
     pub ran_cut : FrontsBeginWholeTexts → ((w : World) (left : List Event) → StandsWith script e left w → StaysKept script e.first_budget w
         → CutsTurn script e w left e' now now') → WrotePart script budget before now'
     ran_cut law cut =
         let t = cut so_far ran.left ran.stands kept_so_far in
-        let g = went script (Advances e ran.left e') so_far ran.left e' t.answer t.turns in
-        ran_part g.events (events_told t.answer) g.still g.after g.goes g.lines law now' t.written
+        let g = went script (Advances e ran.left e') so_far ran.left e' t.waits t.answer t.turns in
+        ran_part g.events (t.waits ++ events_told t.answer) g.still g.after g.goes g.lines law now' t.written
 
     -- Each turn that goes on lowers the number.
     pub falls_on : (stands : Standing) → IsSmall e'.store → stands ≡ standing.Running → Wrote stands → falling script e' < falling script e
-    falls_on stands small runs t = let h = t so_far ran.left ran.stands kept_so_far in go h.answer (h.is ∙ runs) h.turns
+    falls_on stands small runs t = let h = t so_far ran.left ran.stands kept_so_far in go h.waits h.answer (h.is ∙ runs) h.turns
       where
         falls : (told : List Event) → GoesOnTo script (Advances e ran.left e') so_far ran.left told e' → falling script e' < falling script e
         falls told turn = turn_falls script e e' so_far ran.left told ran.stands (sound_after script (opening script budget) ran.steps (opening_sound script budget) ran.run) small turn
 
-        go : (answer : Turned) → standing_after answer ≡ standing.Running → Turned_so answer → falling script e' < falling script e
-        go turned.Quiet is g = falls [] g
-        go (turned.Line event) is g = falls (event ∷ []) g
-        go (turned.Lines events) is g = falls events g
-        go _ is g = absurd (cc)
+        go : (waits : List Event) (answer : Turned) → standing_after answer ≡ standing.Running → Turned_so waits answer → falling script e' < falling script e
+        go waits turned.Quiet is g = falls (waits ++ []) g
+        go waits (turned.Line event) is g = falls (waits ++ event ∷ []) g
+        go waits (turned.Lines events) is g = falls (waits ++ events) g
+        go waits _ is g = absurd (cc)

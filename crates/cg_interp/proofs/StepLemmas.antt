@@ -1,5 +1,5 @@
 -- A step of the script or of a frame: the next command, or a collection that is due before it.
-use Rattle.std.proofs.Common.{◌≡◌, refl, sym, ◌∙◌, ap, subst, ℕ, true, false, List, [], ◌∷◌, ◌++◌, Option, None, Some, inl, take, drop, Bool, length, arith, ◌+◌}
+use Rattle.std.proofs.Common.{◌≡◌, refl, sym, ◌∙◌, ap, subst, ℕ, true, false, List, [], ◌∷◌, ◌++◌, Option, None, Some, inl, take, drop, Bool, length, arith, ◌+◌, append-nil}
 use Rattle.std.specs.Prelude.{option_to_list}
 use Rattle.std.proofs.lemmas.List.{take-append-drop}
 use Rattle.cg_script.specs.declared.Script.{Script}
@@ -30,8 +30,8 @@ use Rattle.cg_interp.specs.Engines.{State, StandsFor, commands_from, frame_of, u
 use Rattle.cg_interp.specs.declared.caller.Caller.{Caller}
 use Rattle.cg_interp.specs.declared.caller.Runner.{Runner}
 use Rattle.cg_interp.specs.declared.caller.Runner.TheVariants as runner_is
-use Rattle.cg_interp.specs.Callers.{caller_activity, caller_locals, with_next, told, MayCommand, Does, StartsCollection, ChangesOn, TellsChange, DoesAny, RunsTo, StaysKeptAfter, IsAtCommand, ComesNext, StepsFrom, activity_at, locals_in, frame_caller}
-use Rattle.cg_interp.specs.Quietly.{ComesTo}
+use Rattle.cg_interp.specs.Callers.{caller_activity, caller_locals, with_next, told, MayCommand, Does, StartsCollection, ChangesOn, TellsChange, DoesAny, RunsTo, StaysKeptAfter, IsAtCommand, ComesNext, StepsFrom, StepsOn, TellsTo, activity_at, locals_in, frame_caller}
+use Rattle.cg_interp.specs.Quietly.{ComesTelling}
 use Rattle.cg_interp.specs.Collecting.{StandsWith}
 use Rattle.cg_interp.specs.Telling.{TurnsWith}
 use Rattle.cg_interp.specs.Turns.{Makes, Turns, GoesTo, IsFit}
@@ -101,8 +101,8 @@ module _ (script : Script) (w without : World) (c : Command) (running : w.outcom
       subst (TurnsWith script (λ still. ⊥) w [] e) (sym tells.is) (turns_plainly script w e (told tells.line) (told_turns tells.line e tells.changes))))
 
   -- where its caller is to go on
-  pub command_comes : (e : State) → ChangesOn script without c [] e → ComesTo script w e
-  command_comes e changes = let to = goes_to [] e changes in record { after = to.after; goes = quietly script w to.after plain to.goes; stands = to.stands }
+  pub command_comes : {lines : List Event} (e : State) → ChangesOn script without c lines e → ComesTelling script w lines e
+  command_comes {lines} e changes = let to = goes_to lines e changes in record { after = to.after; goes = quietly script w to.after plain to.goes; stands = to.stands }
 
   pub command_keeps : (budget : ℕ) → StaysKept script budget w → StaysKeptAfter script budget without c
   command_keeps budget kept events after may = kept_after script w after running budget events (step events after may) kept
@@ -334,18 +334,33 @@ module _ (script : Script) (caller : Caller) (next : Option ℕ) (c : Command) (
   top_after = caller_activity caller
 
   -- its result is the result of its caller's step
-  pub comes : RunsTo script at_command.0 c top_after new None → ComesTo script w (under top_after new)
+  pub comes : {lines : List Event} → ChangesOn script at_command.0 c lines (under top_after new) → ComesTelling script w lines (under top_after new)
   unfolding without at_command
   comes changes = command_comes script w without.world c stands.running (caller_detects_none script old w (with_next next caller) stands) (without.does none) (under top_after new) changes
 
-  pub answers : (answer : Turned) → RunsTo script at_command.0 c top_after new (Some answer) → TurnsWith script (λ still. ⊥) w [] new answer
+  pub answers : (answer : Turned) → DoesAny script at_command.0 c new answer → TurnsWith script (λ still. ⊥) w [] new answer
   unfolding without at_command
   answers answer does = command_turns script w without.world c stands.running (caller_detects_none script old w (with_next next caller) stands) (without.does none) new answer does
 
 pub steps_from : (script : Script) (caller : Caller) (next : Option ℕ) (c : Command) (old new : State) → ComesNext script caller next c
     → ((w : World) → StandsFor script (under (caller_activity (with_next next caller)) old) w → due w ≡ None)
-    → (result : Option Turned) → ((w : World) → IsAtCommand script caller old w c → RunsTo script w c (caller_activity caller) new result) → StepsFrom script caller next old new result
+    → (result : Option Turned) → ((w : World) → IsAtCommand script caller old w c → RunsTo script w c (caller_activity caller) new [] result) → StepsFrom script caller next old new result
 steps_from script caller next c old new is none None does = λ w stands kept.
     let at = at_command script caller next c old new is w stands kept (none w stands) in comes script caller next c old new is w stands kept (none w stands) (does at.0 at.1)
 steps_from script caller next c old new is none (Some answer) does = λ w stands kept.
     let at = at_command script caller next c old new is w stands kept (none w stands) in answers script caller next c old new is w stands kept (none w stands) answer (does at.0 at.1)
+
+pub steps_told : (script : Script) (caller : Caller) (next : Option ℕ) (c : Command) (old new : State) → ComesNext script caller next c
+    → ((w : World) → StandsFor script (under (caller_activity (with_next next caller)) old) w → due w ≡ None) → (waits now : List Event)
+    → (result : Option Turned) → ((w : World) → IsAtCommand script caller old w c → TellsTo script w c (caller_activity caller) new waits now result)
+    → StepsOn script caller next old new waits now result
+steps_told script caller next c old new is none waits now None does = λ w stands kept.
+    let at = at_command script caller next c old new is w stands kept (none w stands) in
+    let (lines, told, changes) = does at.0 at.1 in (lines, told, comes script caller next c old new is w stands kept (none w stands) changes)
+steps_told script caller next c old new is none waits now (Some answer) does = steps_from script caller next c old new is none (Some answer) does
+
+-- a quiet step tells nothing
+pub quiet_step : (script : Script) (caller : Caller) (next : Option ℕ) (old new : State) (waits now : List Event) → now ≡ waits → (result : Option Turned)
+    → StepsFrom script caller next old new result → StepsOn script caller next old new waits now result
+quiet_step script caller next old new waits now is None steps = λ w stands kept. ([], is ∙ sym (append-nil waits), steps w stands kept)
+quiet_step script caller next old new waits now is (Some answer) steps = steps

@@ -13,7 +13,7 @@ use Rattle.cg_interp.specs.declared.activity.Activity.TheVariants as activity
 use Rattle.cg_interp.specs.declared.turned.Turned.{Turned}
 use Rattle.cg_interp.specs.Engines.{State, StandsFor, is_collecting, under}
 use Rattle.cg_interp.specs.Collecting.{StandsWith, CollectsOnTop}
-use Rattle.cg_interp.specs.Telling.{Advances, TurnsWith, TurnsFrom, TurnsAny}
+use Rattle.cg_interp.specs.Telling.{Advances, TurnsAfter, TurnsBy, TurnsAnyBy}
 use Rattle.cg_interp.proofs.ActivityLemmas.{something_under_way}
 use Rattle.cg_interp.proofs.CallerLemmas.{same_engine}
 use Rattle.cg_interp.proofs.AnswersOfTurns.{turns_moving}
@@ -28,10 +28,10 @@ stands_above script e top rest left w is plain stands = either stands (λ plainl
     absurd (cc))
 
 -- So a turn of it is a turn of the engine.
-pub turns_any : (script : Script) (top : Own) (old new : State) (answer : Turned) → is_collecting top ≡ false → TurnsFrom script top old new answer → TurnsAny script (under top old) new answer
-turns_any script top old new answer plain turns w left stands kept =
+pub turns_any : (waits : List Event) (script : Script) (top : Own) (old new : State) (answer : Turned) → is_collecting top ≡ false → TurnsBy script waits top old new answer → TurnsAnyBy script waits (under top old) new answer
+turns_any waits script top old new answer plain turns w left stands kept =
     let plainly = stands_above script (under top old) top old.activities left w refl plain stands in
-    subst (λ l. TurnsWith script (Advances (under top old) l new) w l new answer) (sym plainly.1) (turns_moving script (Advances (under top old) [] new) w [] new answer (turns w plainly.0 kept))
+    subst (λ l. TurnsAfter script (Advances (under top old) l new) w l new waits answer) (sym plainly.1) (turns_moving waits script (Advances (under top old) [] new) w [] new answer (turns w plainly.0 kept))
 
 -- another engine with the same parts, even if a collection on top has lines left
 pub stands_alike : (script : Script) (old new : State) (left : List Event) (w : World) → new.store ≡ old.store → new.policy ≡ old.policy → new.activities

@@ -1,5 +1,5 @@
 -- The activities with commands, and what a command leaves. (Ours.)
-use Rattle.std.specs.Prelude.{◌≡◌, ◌<◌, ℕ, true, false, ◌⊎◌, List, [], ◌∷◌, Option, None, Some, Result, option_to_list}
+use Rattle.std.specs.Prelude.{◌≡◌, ◌<◌, ℕ, true, false, ◌⊎◌, List, [], ◌∷◌, ◌++◌, Option, None, Some, Result, option_to_list}
 use Rattle.cg_value.specs.declared.Entry.{Entry}
 use Rattle.cg_script.specs.declared.Script.{Script}
 use Rattle.cg_graph.specs.Value.{entry_references}
@@ -35,7 +35,7 @@ use Rattle.cg_commands.specs.Stands.{HasLocals}
 use Rattle.cg_inspect.specs.Inspection.{IsIdle}
 use Rattle.cg_collect.specs.Numbers.{AreSmall}
 use Rattle.cg_interp.specs.Telling.{TurnsFrom}
-use Rattle.cg_interp.specs.Quietly.{ComesTo, ComesFrom}
+use Rattle.cg_interp.specs.Quietly.{ComesTo, ComesFrom, TellsBy}
 use Rattle.cg_interp.specs.Engines.{State, StandsFor, ShowsAll, under, any_collecting, commands_from}
 
 -- the activity that the script is, or a frame, with its next command
@@ -150,14 +150,24 @@ pub record TellsChange (script : Script) (w : World) (command : Command) (e : St
 abbrev pub DoesAny : Script → World → Command → State → Turned → Type 0
 DoesAny script w command e answer = Does script w command e answer ⊎ (StartsCollection script w command e answer ⊎ TellsChange script w command e answer)
 
--- The result of a command: after `None` there is no line and its caller goes on; else the turn is over.
-abbrev pub RunsTo : Script → World → Command → Activity → State → Option Turned → Type 0
-RunsTo script w command top e None = ChangesOn script w command [] (under top e)
-RunsTo script w command top e (Some answer) = DoesAny script w command e answer
+-- The result of a command: after `None` it printed these lines and its caller goes on; else the turn is over.
+abbrev pub RunsTo : Script → World → Command → Activity → State → List Event → Option Turned → Type 0
+RunsTo script w command top e lines None = ChangesOn script w command lines (under top e)
+RunsTo script w command top e lines (Some answer) = DoesAny script w command e answer
 
--- What was given up after a change, with this line or none: after `None` there is no line, and its caller goes on.
+-- the same where lines wait to be printed: its lines now wait after them
+abbrev pub TellsTo : Script → World → Command → Activity → State → List Event → List Event → Option Turned → Type 0
+TellsTo script w command top e waits now None = (lines : List Event) × (now ≡ waits ++ lines) × ChangesOn script w command lines (under top e)
+TellsTo script w command top e waits now (Some answer) = DoesAny script w command e answer
+
+-- A line, if any, was told: after `None` it waits after the others, and its caller goes on.
+abbrev pub Tells : Script → World → Activity → State → Option Event → List Event → List Event → Option Turned → Type 0
+Tells script w top e line waits now None = (now ≡ waits ++ option_to_list line) × ComesTo script w (under top e)
+Tells script w top e line waits now (Some answer) = (answer ≡ told line) × ComesTo script w e
+
+-- What was given up after a change, with this line or none: after `None` its caller goes on.
 abbrev pub GivesUp : Script → World → Activity → State → Option Event → Option Turned → Type 0
-GivesUp script w top e line None = (line ≡ None) × ComesTo script w (under top e)
+GivesUp script w top e line None = ComesTo script w (under top e)
 GivesUp script w top e line (Some answer) = (answer ≡ told line) × ComesTo script w e
 
 -- Each world after a command is kept.
@@ -193,6 +203,11 @@ ComesNext script caller next command = commands_left script (with_next next call
 abbrev pub StepsFrom : Script → Caller → Option ℕ → State → State → Option Turned → Type 0
 StepsFrom script caller next old new None = ComesFrom script (caller_activity (with_next next caller)) old (caller_activity caller) new
 StepsFrom script caller next old new (Some answer) = TurnsFrom script (caller_activity (with_next next caller)) old new answer
+
+-- the same where lines wait to be printed: those told now wait after them
+abbrev pub StepsOn : Script → Caller → Option ℕ → State → State → List Event → List Event → Option Turned → Type 0
+StepsOn script caller next old new waits now None = TellsBy script waits now (caller_activity (with_next next caller)) old (caller_activity caller) new
+StepsOn script caller next old new waits now (Some answer) = TurnsFrom script (caller_activity (with_next next caller)) old new answer
 
 -- Each of these commands is well formed in a script with this number of texts.
 abbrev pub AreDoable : ℕ → List Command → Type 0

@@ -28,24 +28,39 @@ use Rattle.cg_interp.specs.Collecting.{Collects}
 use Rattle.cg_interp.specs.Telling.{CollectsNext}
 use Rattle.cg_interp.specs.Turns.{GoesTo, GivesDeath, StaysOn}
 
--- The machine goes from one world to another in zero or more steps, without a line and without a reachability pass.
-pub record GoesQuietly (script : Script) (w after : World) : Type 0 where
+-- The machine goes from one world to another in zero or more steps, with these lines and without a reachability pass.
+pub record GoesPlainly (script : Script) (w : World) (events : List Event) (after : World) : Type 0 where
   pub steps : List StepTaken
   pub run : Run script w steps
-  pub silent : events_of steps ≡ []
+  pub prints : events_of steps ≡ events
   pub ends : last_world w steps ≡ after
   pub none : MakesNoDetection w steps
 
 -- So it reaches a world that the engine represents.
-pub record ComesTo (script : Script) (w : World) (e : State) : Type 0 where
+pub record ComesTelling (script : Script) (w : World) (events : List Event) (e : State) : Type 0 where
   pub after : World
-  pub goes : GoesQuietly script w after
+  pub goes : GoesPlainly script w events after
   pub stands : StandsFor script e after
 
+-- the same without a line
+abbrev pub GoesQuietly : Script → World → World → Type 0
+GoesQuietly script w after = GoesPlainly script w [] after
+
+abbrev pub ComesTo : Script → World → State → Type 0
+ComesTo script w e = ComesTelling script w [] e
+
 -- From each world of a run that an engine with one top activity represented, it reaches one that an engine with another
--- represents.
+-- represents, with these lines or quietly.
+abbrev pub ComesBy : Script → List Event → Activity → State → Activity → State → Type 0
+ComesBy script events top old top_now new = (w : World) → StandsFor script (under top old) w → StaysKept script old.first_budget w → ComesTelling script w events (under top_now new)
+
+-- or with lines that now wait after others
+abbrev pub TellsBy : Script → List Event → List Event → Activity → State → Activity → State → Type 0
+TellsBy script waits now top old top_now new = (w : World) → StandsFor script (under top old) w → StaysKept script old.first_budget w
+    → (lines : List Event) × (now ≡ waits ++ lines) × ComesTelling script w lines (under top_now new)
+
 abbrev pub ComesFrom : Script → Activity → State → Activity → State → Type 0
-ComesFrom script top old top_now new = (w : World) → StandsFor script (under top old) w → StaysKept script old.first_budget w → ComesTo script w (under top_now new)
+ComesFrom script top old top_now new = ComesBy script [] top old top_now new
 
 -- The end of a release: all its references are given up, or it answers an object whose death is to begin.
 abbrev pub Released : Script → World → State → Release → Option ℕ → Type 0

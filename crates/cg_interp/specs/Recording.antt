@@ -14,14 +14,14 @@ use Rattle.cg_interp.specs.declared.graphs.Detection.TheVariants.{First, Second}
 use Rattle.cg_interp.specs.declared.turned.Turned.{Turned}
 use Rattle.cg_interp.specs.declared.turned.Standing.{Standing}
 use Rattle.cg_interp.specs.Engines.{State}
-use Rattle.cg_interp.specs.Telling.{TurnsWith, Advances}
+use Rattle.cg_interp.specs.Telling.{TurnsAfter, Advances}
 use Rattle.cg_interp.specs.Running.{Ran, events_told, standing_after}
 use Rattle.cg_interp.specs.Recorded.{Picture, RunShows, wants_memory}
 use Rattle.cg_interp.specs.Graphs.{taken, unfinished_after, begins_record, taken_while, heading, text_before, text_after, detection_on}
 
 -- the state of the run after a turn; None if a command was refused for memory
-abbrev pub told_after : Turned → Option Standing
-told_after answer = cond (list_any wants_memory (events_told answer)) None (Some (standing_after answer))
+abbrev pub told_after : List Event → Turned → Option Standing
+told_after waits answer = cond (list_any wants_memory (waits ++ events_told answer)) None (Some (standing_after answer))
 
 -- the recorded pass of the next turn
 abbrev pub recorded_next : Bool → State → Option Detection
@@ -34,16 +34,18 @@ text_of_turn script before after unfinished d = text_before script before unfini
 -- A turn, and its records were written.
 pub record RecordsTurn (script : Script) (old : State) (unfinished : Bool) (w : World) (left : List Event) (e : State) (then : Bool) (told : Option Standing)
     (before now : Option (List ℕ)) : Type 0 where
+  pub waits : List Event
   pub answer : Turned
-  pub is : told ≡ told_after answer
-  pub turns : TurnsWith script (Advances old left e) w left e answer
+  pub is : told ≡ told_after waits answer
+  pub turns : TurnsAfter script (Advances old left e) w left e waits answer
   pub still : then ≡ unfinished_after unfinished (recorded_next unfinished old)
   pub written : Appends before now (text_of_turn script old.store e.store unfinished (recorded_next unfinished old))
 
 -- A turn, and a prefix of its records was written.
 pub record CutsFindings (script : Script) (old : State) (unfinished : Bool) (w : World) (left : List Event) (e : State) (before now : Option (List ℕ)) : Type 0 where
+  pub waits : List Event
   pub answer : Turned
-  pub turns : TurnsWith script (Advances old left e) w left e answer
+  pub turns : TurnsAfter script (Advances old left e) w left e waits answer
   pub written : AppendsFront before now (text_of_turn script old.store e.store unfinished (recorded_next unfinished old))
 
 -- A prefix of a turn's records was written, before the turn or after it.

@@ -22,7 +22,7 @@ use Rattle.cg_interp.specs.declared.turned.Standing.TheVariants as standing
 use Rattle.cg_interp.specs.Engines.{State, StandsFor}
 use Rattle.cg_interp.specs.Turns.{IsFit}
 use Rattle.cg_interp.specs.Collecting.{StandsWith}
-use Rattle.cg_interp.specs.Telling.{TurnsWith, Advances, IsAtAnyTurn}
+use Rattle.cg_interp.specs.Telling.{TurnsAfter, Advances, IsAtAnyTurn}
 
 -- the events to print after a turn
 abbrev pub events_told : Turned → List Event
@@ -44,16 +44,18 @@ standing_after turned.Spent = standing.Spent
 
 -- A turn of the engine that leaves the run in this state; its lines were written.
 pub record WritesTurn (script : Script) (old : State) (w : World) (left : List Event) (e : State) (stands : Standing) (before now : Option (List ℕ)) : Type 0 where
+  pub waits : List Event
   pub answer : Turned
   pub is : standing_after answer ≡ stands
-  pub turns : TurnsWith script (Advances old left e) w left e answer
-  pub written : Appends before now (flat_map (line script.names) (events_told answer))
+  pub turns : TurnsAfter script (Advances old left e) w left e waits answer
+  pub written : Appends before now (flat_map (line script.names) (waits ++ events_told answer))
 
 -- A turn of the engine, and a prefix of its lines was written.
 pub record CutsTurn (script : Script) (old : State) (w : World) (left : List Event) (e : State) (before now : Option (List ℕ)) : Type 0 where
+  pub waits : List Event
   pub answer : Turned
-  pub turns : TurnsWith script (Advances old left e) w left e answer
-  pub written : AppendsFront before now (flat_map (line script.names) (events_told answer))
+  pub turns : TurnsAfter script (Advances old left e) w left e waits answer
+  pub written : AppendsFront before now (flat_map (line script.names) (waits ++ events_told answer))
 
 -- Each remaining line, and each that the machine will print, can be printed.
 abbrev pub StaysPrintable : Script → List Event → World → Type 0

@@ -29,14 +29,18 @@ pub record GoesOnTo (script : Script) (may_rest : List Event → Type 0) (w : Wo
   pub moves : (goes.steps ≢ []) ⊎ may_rest still
   pub stands : StandsWith script e still after
 
--- what a turn answers; the run ends only if no line is left
+-- what a turn answers, after lines that wait to be printed; the run ends only if no line is left
+abbrev pub TurnsAfter : Script → (List Event → Type 0) → World → List Event → State → List Event → Turned → Type 0
+TurnsAfter script may_rest w left e waits turned.Quiet = GoesOnTo script may_rest w left (waits ++ []) e
+TurnsAfter script may_rest w left e waits (turned.Line event) = GoesOnTo script may_rest w left (waits ++ event ∷ []) e
+TurnsAfter script may_rest w left e waits (turned.Lines events) = GoesOnTo script may_rest w left (waits ++ events) e
+TurnsAfter script may_rest w left e waits turned.Ended = (left ≡ []) × RunEndsWith script w (waits ++ End ∷ []) Ended
+TurnsAfter script may_rest w left e waits (turned.Left n) = (left ≡ []) × RunEndsWith script w (waits ++ Left n ∷ End ∷ []) Ended
+TurnsAfter script may_rest w left e waits turned.Spent = (left ≡ []) × RunEndsWith script w (waits ++ BudgetSpent ∷ []) BudgetIsSpent
+
+-- if none waits
 abbrev pub TurnsWith : Script → (List Event → Type 0) → World → List Event → State → Turned → Type 0
-TurnsWith script may_rest w left e turned.Quiet = GoesOnTo script may_rest w left [] e
-TurnsWith script may_rest w left e (turned.Line event) = GoesOnTo script may_rest w left (event ∷ []) e
-TurnsWith script may_rest w left e (turned.Lines events) = GoesOnTo script may_rest w left events e
-TurnsWith script may_rest w left e turned.Ended = (left ≡ []) × RunEndsWith script w (End ∷ []) Ended
-TurnsWith script may_rest w left e (turned.Left n) = (left ≡ []) × RunEndsWith script w (Left n ∷ End ∷ []) Ended
-TurnsWith script may_rest w left e turned.Spent = (left ≡ []) × RunEndsWith script w (BudgetSpent ∷ []) BudgetIsSpent
+TurnsWith script may_rest w left e answer = TurnsAfter script may_rest w left e [] answer
 
 -- The collection on top is nearer to its end, or over.
 abbrev pub IsNearer : List Activity → Store → List Activity → Store → Type 0
@@ -57,8 +61,11 @@ pub record IsAtTurn (script : Script) (top : Activity) (e : State) : Type 0 wher
   pub kept : StaysKept script e.first_budget world
 
 -- From each such world the machine goes on as answered, by at least one step.
+abbrev pub TurnsBy : Script → List Event → Activity → State → State → Turned → Type 0
+TurnsBy script waits top old new answer = (w : World) → StandsFor script (under top old) w → StaysKept script old.first_budget w → TurnsAfter script (λ still. ⊥) w [] new waits answer
+
 abbrev pub TurnsFrom : Script → Activity → State → State → Turned → Type 0
-TurnsFrom script top old new answer = (w : World) → StandsFor script (under top old) w → StaysKept script old.first_budget w → TurnsWith script (λ still. ⊥) w [] new answer
+TurnsFrom script top old new answer = TurnsBy script [] top old new answer
 
 -- the same for any engine; a collection may be on top and have lines left
 pub record IsAtAnyTurn (script : Script) (e : State) : Type 0 where
@@ -69,8 +76,11 @@ pub record IsAtAnyTurn (script : Script) (e : State) : Type 0 where
   pub stands : StandsWith script e left world
   pub kept : StaysKept script e.first_budget world
 
+abbrev pub TurnsAnyBy : Script → List Event → State → State → Turned → Type 0
+TurnsAnyBy script waits old new answer = (w : World) (left : List Event) → StandsWith script old left w → StaysKept script old.first_budget w → TurnsAfter script (Advances old left new) w left new waits answer
+
 abbrev pub TurnsAny : Script → State → State → Turned → Type 0
-TurnsAny script old new answer = (w : World) (left : List Event) → StandsWith script old left w → StaysKept script old.first_budget w → TurnsWith script (Advances old left new) w left new answer
+TurnsAny script old new answer = TurnsAnyBy script [] old new answer
 
 -- With a collection on top that may make its next step, a fit engine represents a world of such a run.
 pub record CollectsNext (script : Script) (asked : Bool) (c : Collection) (e : State) : Type 0 where

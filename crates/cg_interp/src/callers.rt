@@ -1,5 +1,5 @@
 //! The script, or a frame, on top.
-ghost use Rattle.std.specs.Prelude.{◌≡◌, ◌<◌, ◌≤◌, ◌+◌, ◌∷◌, ℕ, true, false, [], length, Option, Some, None, IfNone};
+ghost use Rattle.std.specs.Prelude.{◌≡◌, ◌<◌, ◌≤◌, ◌+◌, ◌∷◌, ℕ, true, false, [], length, Option, Some, None, IfNone, OnSome};
 ghost use Rattle.cg_machine.specs.Program.{commands_of, body_of as body_in};
 ghost use Rattle.cg_machine.specs.World.{World, push};
 ghost use Rattle.cg_machine.specs.Commands.{new_collection};
@@ -13,8 +13,8 @@ ghost use Rattle.cg_interp.specs.declared.activity.Activity.TheVariants as activ
 ghost use Rattle.cg_interp.specs.Engines.{StandsFor, under, commands_from};
 ghost use Rattle.cg_interp.specs.Collecting.{StandsWith};
 ghost use Rattle.cg_interp.specs.Turns.{IsFit, StaysFit, TurnKeeps, HasRoomForOneMore, HasMoreRoom};
-ghost use Rattle.cg_interp.specs.Telling.{IsAtTurn, TurnsFrom};
-ghost use Rattle.cg_interp.specs.Callers.{caller_activity, caller_locals, frame_caller, with_next, MayCommand, ComesNext, IsAtCommand, RunsTo, StepsFrom};
+ghost use Rattle.cg_interp.specs.Telling.{IsAtTurn, TurnsFrom, TurnsBy};
+ghost use Rattle.cg_interp.specs.Callers.{caller_activity, caller_locals, frame_caller, with_next, MayCommand, ComesNext, IsAtCommand, TellsTo, StepsFrom, StepsOn};
 
 use crate::activity::Activity;
 use crate::caller::{Caller, Runner};
@@ -23,14 +23,23 @@ use crate::next::{body_of, next_change, next_in, next_of};
 use crate::turned::Turned;
 use cg_commands::{Locals, change, makes_object, only_changes, perform};
 use cg_kind::Kind;
+use cg_machine::Event;
 use cg_script::{Command, Script};
 
 impl<B: Kind> Engine<B> {
-    /// Goes on with the script, taken from the top: does command after command, until one prints a
-    /// line or starts something. A due collection comes first, also before the end or the shutdown.
-    pub fn go_on(&mut self, script: &Script, next: Option<usize>) -> Turned
+    /// Goes on with the script, taken from the top: does command after command, until one starts
+    /// something or no more lines can wait. A due collection comes first, also before the end or
+    /// the shutdown. The lines in `waiting` come before those of the answer.
+    pub fn go_on(
+        &mut self,
+        script: &Script,
+        next: Option<usize>,
+        waiting: &mut Vec<Event>,
+    ) -> Turned
         requires stands { IsAtTurn script.now (activity_of.Script next) self.old }
-        ensures turns { TurnsFrom script.now (activity_of.Script next) self.old self.new result }
+        requires empty { waiting.old.items ≡ [] }
+        ensures turns { TurnsBy script.now waiting.new.items (activity_of.Script next) self.old self.new
+            result }
         ensures fit { StaysFit self.old self.new }
     {
         let mut next = next;
@@ -43,7 +52,7 @@ impl<B: Kind> Engine<B> {
             match next_in(&script.items, next) {
                 Some((command, after)) => {
                     caller.go_on_from(after);
-                    match self.step(&caller, &None, next, command) {
+                    match self.step(&caller, &None, next, command, waiting) {
                         Some(answer) => return answer,
                         None => next = Some(after),
                     }
@@ -77,26 +86,35 @@ impl<B: Kind> Engine<B> {
         locals: Locals,
         procedure: u32,
         next: Option<usize>,
+        waiting: &mut Vec<Event>,
     ) -> Turned
         requires stands { IsAtTurn script.now (activity_of.Frame locals procedure next) self.old }
-        ensures turns { TurnsFrom script.now (activity_of.Frame locals procedure next) self.old
-            self.new result }
+        requires empty { waiting.old.items ≡ [] }
+        ensures turns { TurnsBy script.now waiting.new.items (activity_of.Frame locals procedure next)
+            self.old self.new result }
         ensures fit { StaysFit self.old self.new }
     {
         match next {
-            Some(number) => self.go_on_at(script, locals, procedure, number),
+            Some(number) => self.go_on_at(script, locals, procedure, number, waiting),
             None => self.leave(locals),
         }
     }
 
     /// The same from the command with this number on. First does the run of commands that change
     /// names or entries, since most commands are of this sort.
-    fn go_on_at(&mut self, script: &Script, locals: Locals, procedure: u32, number: usize) -> Turned
+    fn go_on_at(
+        &mut self,
+        script: &Script,
+        locals: Locals,
+        procedure: u32,
+        number: usize,
+        waiting: &mut Vec<Event>,
+    ) -> Turned
         requires stands { IsAtTurn script.now (activity_of.Frame locals procedure (Some number))
             self.old }
-        ensures turns { TurnsFrom script.now (activity_of.Frame locals procedure (Some number))
-            self.old
-            self.new result }
+        requires empty { waiting.old.items ≡ [] }
+        ensures turns { TurnsBy script.now waiting.new.items
+            (activity_of.Frame locals procedure (Some number)) self.old self.new result }
         ensures fit { StaysFit self.old self.new }
     {
         let body = body_of(script, procedure);
@@ -112,7 +130,7 @@ impl<B: Kind> Engine<B> {
                         runner: Runner::Frame { locals, procedure },
                         next: Some(after),
                     };
-                    match self.step(&gone_on, &Some(locals), Some(number), command) {
+                    match self.step(&gone_on, &Some(locals), Some(number), command, waiting) {
                         Some(answer) => return answer,
                         None => number = after,
                     }
@@ -241,8 +259,7 @@ impl<B: Kind> Engine<B> {
 
     /// Does the next command of a caller, taken from the top, or starts a due collection before it.
     /// The caller has already advanced past that command, which has this number. Answers `None` if
-    /// there is no line and the caller is to go on; it is then not put back. `locals` are the
-    /// caller's.
+    /// the caller is to go on; it is then not put back. `locals` are the caller's.
     #[inline(always)]
     fn step(
         &mut self,
@@ -250,12 +267,14 @@ impl<B: Kind> Engine<B> {
         locals: &Option<Locals>,
         next: Option<usize>,
         command: &Command,
+        waiting: &mut Vec<Event>,
     ) -> Option<Turned>
         requires own { locals.now ≡ caller_locals caller.now }
         requires stands { (script : AnyScript) × ComesNext script caller.now next command.now
             × IsAtTurn script (caller_activity (with_next next caller.now)) self.old }
         ensures steps { (script : AnyScript) → ComesNext script caller.now next command.now
-            → StepsFrom script caller.now next self.old self.new result }
+            → StepsOn script caller.now next self.old self.new waiting.old.items waiting.new.items result }
+        ensures waits { OnSome result (waiting.new.items ≡ waiting.old.items) }
         ensures fit { StaysFit self.old self.new }
     {
         // Heaps are bounded, and while no collection is under way its places are empty.
@@ -269,7 +288,7 @@ impl<B: Kind> Engine<B> {
                 if only_changes(command) {
                     self.step_change(caller, locals, command)
                 } else {
-                    self.run(caller, locals, command)
+                    self.run(caller, locals, command, waiting)
                 }
             }
         }
@@ -297,7 +316,13 @@ impl<B: Kind> Engine<B> {
     /// Does a command of another sort than `step_change` does, of the caller that was on top, which
     /// has gone on to the command after it.
     #[inline(always)]
-    fn run(&mut self, caller: &Caller, locals: &Option<Locals>, command: &Command) -> Option<Turned>
+    fn run(
+        &mut self,
+        caller: &Caller,
+        locals: &Option<Locals>,
+        command: &Command,
+        waiting: &mut Vec<Event>,
+    ) -> Option<Turned>
         requires own { locals.now ≡ caller_locals caller.now }
         requires spelled { IsSpelledCommand (length self.old.store.names) command.now }
         requires locals { LocalsLive self.old.store locals.now }
@@ -308,11 +333,13 @@ impl<B: Kind> Engine<B> {
             × IsAtCommand script caller.now self.old w command.now }
         ensures does { (script : AnyScript) (w : World) → IsAtCommand script caller.now self.old w
             command.now
-            → RunsTo script w command.now (caller_activity caller.now) self.new result }
+            → TellsTo script w command.now (caller_activity caller.now) self.new waiting.old.items
+            waiting.new.items result }
+        ensures waits { OnSome result (waiting.new.items ≡ waiting.old.items) }
         ensures fit { StaysFit self.old self.new }
     {
         let room = self.make_room(command);
-        self.carry_out(caller, locals, command, room)
+        self.carry_out(caller, locals, command, room, waiting)
     }
 
     /// The same; an object is made only if there is room for its death.
@@ -323,6 +350,7 @@ impl<B: Kind> Engine<B> {
         locals: &Option<Locals>,
         command: &Command,
         room: bool,
+        waiting: &mut Vec<Event>,
     ) -> Option<Turned>
         requires own { locals.now ≡ caller_locals caller.now }
         requires spelled { IsSpelledCommand (length self.old.store.names) command.now }
@@ -335,7 +363,9 @@ impl<B: Kind> Engine<B> {
         requires one_more { room ≡ true → HasRoomForOneMore self.old }
         ensures does { (script : AnyScript) (w : World) → IsAtCommand script caller.now self.old w
             command.now
-            → RunsTo script w command.now (caller_activity caller.now) self.new result }
+            → TellsTo script w command.now (caller_activity caller.now) self.new waiting.old.items
+            waiting.new.items result }
+        ensures waits { OnSome result (waiting.new.items ≡ waiting.old.items) }
         ensures fit { StaysFit self.old self.new }
     {
         let done = perform(
@@ -346,7 +376,7 @@ impl<B: Kind> Engine<B> {
             command,
             room,
         );
-        self.answer(caller, done)
+        self.answer(caller, done, waiting)
     }
 
     /// Makes room on the stack for the death of an object, if the command makes one. Answers

@@ -1,5 +1,5 @@
 //! What the engine does after a command.
-ghost use Rattle.std.specs.Prelude.{◌≡◌, ◌<◌, ◌≤◌, true, false, [], Ok, IfNone};
+ghost use Rattle.std.specs.Prelude.{◌≡◌, ◌<◌, ◌≤◌, ◌++◌, ◌∷◌, true, false, [], Ok, IfNone, OnSome};
 ghost use Rattle.cg_value.specs.declared.Val.TheVariants as val_of;
 ghost use Rattle.cg_graph.specs.Value.{item};
 ghost use Rattle.cg_graph.specs.Store.{IsLive, Store};
@@ -20,7 +20,7 @@ ghost use Rattle.cg_interp.specs.declared.activity.Activity.TheVariants as activ
 ghost use Rattle.cg_interp.specs.Engines.{StandsFor, under};
 ghost use Rattle.cg_interp.specs.Quietly.{ComesTo};
 ghost use Rattle.cg_interp.specs.Collecting.{StandsWith};
-ghost use Rattle.cg_interp.specs.Callers.{caller_activity, Changes, releasing, transition_of_change, call_of, told, GivesUp, DoesAny, RunsTo, IsPerformed, HasPerformed, StaysKeptAfter};
+ghost use Rattle.cg_interp.specs.Callers.{caller_activity, Changes, releasing, transition_of_change, call_of, told, GivesUp, DoesAny, Tells, TellsTo, IsPerformed, HasPerformed, StaysKeptAfter};
 ghost use Rattle.cg_interp.specs.Turns.{Makes, entered, TurnKeeps, IsFit, StaysSound, DyingIsSound};
 
 use crate::activity::Activity;
@@ -36,29 +36,36 @@ use cg_machine::{Event, FrameSort, FrameSpec};
 use cg_value::Entry;
 
 impl<B: Kind> Engine<B> {
-    /// What the engine does after a command of the caller, taken from the top. Answers `None` if
-    /// there is no line and the caller is to go on; it is then not put back.
+    /// What the engine does after a command of the caller, taken from the top. Answers `None` if the
+    /// caller is to go on; it is then not put back, and the command's line, if any, is in `waiting`.
     #[inline(always)]
-    pub fn answer(&mut self, caller: &Caller, done: Result<Done, Refusal>) -> Option<Turned>
+    pub fn answer(
+        &mut self,
+        caller: &Caller,
+        done: Result<Done, Refusal>,
+        waiting: &mut Vec<Event>,
+    ) -> Option<Turned>
         requires room { 2 < self.old.room }
         requires performed { (script : AnyScript) × IsSpelled script × IsFit script self.old
             × HasPerformed script (caller_activity caller.now) self.old done }
         ensures does { (script : AnyScript) (w : World) (command : AnyCommand) (before : Store)
             (was : AnyPolicy)
             → IsPerformed script (caller_activity caller.now) self.old w command before was done
-            → RunsTo script w command (caller_activity caller.now) self.new result }
+            → TellsTo script w command (caller_activity caller.now) self.new waiting.old.items
+            waiting.new.items result }
+        ensures waits { OnSome result (waiting.new.items ≡ waiting.old.items) }
         ensures policy { IfNone result (self.new.policy ≡ self.old.policy) }
         ensures keeps { TurnKeeps self.old self.new }
     {
         match done {
-            Ok(done) => self.proceed(caller, done),
+            Ok(done) => self.proceed(caller, done, waiting),
             Err(refusal) => Some(self.refuse(caller, refusal.number())),
         }
     }
 
     /// The same after a command that was not refused.
     #[inline(always)]
-    fn proceed(&mut self, caller: &Caller, done: Done) -> Option<Turned>
+    fn proceed(&mut self, caller: &Caller, done: Done, waiting: &mut Vec<Event>) -> Option<Turned>
         requires room { 2 < self.old.room }
         requires performed { (script : AnyScript) × IsSpelled script × IsFit script self.old
             × HasPerformed script (caller_activity caller.now) self.old (Ok done) }
@@ -66,12 +73,19 @@ impl<B: Kind> Engine<B> {
             (was : AnyPolicy)
             → IsPerformed script (caller_activity caller.now) self.old w command before was
             (Ok done)
-            → RunsTo script w command (caller_activity caller.now) self.new result }
+            → TellsTo script w command (caller_activity caller.now) self.new waiting.old.items
+            waiting.new.items result }
+        ensures waits { OnSome result (waiting.new.items ≡ waiting.old.items) }
         ensures policy { IfNone result (self.new.policy ≡ self.old.policy) }
         ensures keeps { TurnKeeps self.old self.new }
     {
         match done {
-            Done::Changed { line, given_up } => self.give_up_after(caller, line, given_up),
+            Done::Changed { line, given_up } => {
+                match self.give_up_after(caller, line, given_up) {
+                    Some(answer) => Some(answer),
+                    None => self.tell_line(caller, line, waiting),
+                }
+            }
             Done::Calls(function) => Some(self.call(caller, function)),
             Done::Collects(generation) => Some(self.collect_if_idle(caller, generation)),
             Done::Quits => Some(self.quit(caller)),
@@ -122,6 +136,7 @@ impl<B: Kind> Engine<B> {
             → StaysSound script (releasing given_up after)
             → GivesUp script (releasing given_up after) (caller_activity caller.now) self.new line
             result }
+        ensures room { IfNone result (self.new.room ≡ self.old.room) }
         ensures policy { IfNone result (self.new.policy ≡ self.old.policy) }
         ensures keeps { TurnKeeps self.old self.new }
     {
@@ -131,7 +146,7 @@ impl<B: Kind> Engine<B> {
                 self.die_above(caller, release, object);
                 Some(told(line))
             }
-            None => self.tell_line(caller, line),
+            None => None,
         }
     }
 
@@ -154,20 +169,32 @@ impl<B: Kind> Engine<B> {
         self.die_in(release, object);
     }
 
-    /// A line, if any, ends the turn; then the caller is put back.
+    /// A line, if any, waits, and the caller goes on. If no more lines can wait, it ends the turn;
+    /// then the caller is put back.
     #[inline(always)]
-    fn tell_line(&mut self, caller: &Caller, line: Option<Event>) -> Option<Turned>
+    fn tell_line(
+        &mut self,
+        caller: &Caller,
+        line: Option<Event>,
+        waiting: &mut Vec<Event>,
+    ) -> Option<Turned>
         requires room { 0 < self.old.room }
         ensures tells { (script : AnyScript) (w : World)
             → ComesTo script w (under (caller_activity caller.now) self.old)
-            → GivesUp script w (caller_activity caller.now) self.new line result }
+            → Tells script w (caller_activity caller.now) self.new line waiting.old.items waiting.new.items
+            result }
+        ensures waits { OnSome result (waiting.new.items ≡ waiting.old.items) }
         ensures policy { IfNone result (self.new.policy ≡ self.old.policy) }
         ensures keeps { TurnKeeps self.old self.new }
     {
         match line {
             Some(event) => {
-                self.wait(caller);
-                Some(Turned::Line(event))
+                if keep(waiting, event) {
+                    None
+                } else {
+                    self.wait(caller);
+                    Some(Turned::Line(event))
+                }
             }
             None => None,
         }
@@ -321,6 +348,22 @@ impl<B: Kind> Engine<B> {
         ensures keeps { TurnKeeps self.old self.new }
     {
         self.collect(caller.activity(), true, generation);
+    }
+}
+
+/// How many lines of commands a turn lets wait, at most.
+pub const MOST_WAITING: usize = 64;
+
+/// Keeps a line that waits to be printed. Answers whether there was room for it.
+#[inline(always)]
+fn keep(waiting: &mut Vec<Event>, event: Event) -> bool
+    ensures kept { result ≡ true → waiting.new.items ≡ waiting.old.items ++ event ∷ [] }
+    ensures full { result ≡ false → waiting.new.items ≡ waiting.old.items }
+{
+    if waiting.len() < MOST_WAITING {
+        waiting.push(event).is_ok()
+    } else {
+        false
     }
 }
 

@@ -18,14 +18,16 @@ ghost use Rattle.cg_interp.specs.Graphs.{closing};
 ghost use Rattle.cg_interp.specs.Recording.{RecordsTurn, CutsRecord};
 ghost use Rattle.cg_interp.specs.Running.{MayRun, MayOpen};
 
+use crate::commands::MOST_WAITING;
 use crate::engine::Engine;
 use crate::recording::{is_unfinished_after, recorded_of, write_end};
 use crate::run::RunEnd;
-use crate::turned::Standing;
+use crate::turned::{Standing, wants_memory_in};
 use cg_heap::{Heap, Steps};
 use cg_io::{Sink, WriteFailed};
 use cg_kind::Kind;
 use cg_laws::{lines_are_printable, no_run_is_stuck, worlds_stay_kept};
+use cg_machine::Event;
 use cg_script::Script;
 use std::alloc::Global;
 use std::marker::Brand;
@@ -37,6 +39,7 @@ fn turn_and_record<B: Kind, K: Sink, L: Ledger>(
     engine: &mut Engine<B>,
     script: &Script,
     steps: &mut Steps<L>,
+    waiting: &mut Vec<Event>,
     unfinished: &mut bool,
     sink: &mut K,
 ) -> Result<Option<Standing>, WriteFailed>
@@ -60,11 +63,12 @@ fn turn_and_record<B: Kind, K: Sink, L: Ledger>(
     engine.heap.sound();
     let detection = recorded_of(engine.next_detection(), *unfinished);
     engine.write_before(script, detection, *unfinished, sink)?;
-    let answer = engine.turn(script, steps);
+    waiting.clear();
+    let answer = engine.turn(script, steps, waiting);
     engine.heap.sound();
     engine.write_after(detection, sink)?;
     *unfinished = is_unfinished_after(detection, *unfinished);
-    if answer.wants_memory() {
+    if wants_memory_in(waiting, &answer) {
         return Ok(None);
     }
     Ok(Some(answer.standing()))
@@ -94,6 +98,7 @@ fn record_turns<B: Kind, K: Sink, L: Ledger>(
     engine: &mut Engine<B>,
     script: &Script,
     steps: &mut Steps<L>,
+    waiting: &mut Vec<Event>,
     sink: &mut K,
 ) -> RunEnd
     requires may { MayRun script.now engine.old }
@@ -115,7 +120,7 @@ fn record_turns<B: Kind, K: Sink, L: Ledger>(
     no_run_is_stuck();
     let mut unfinished = false;
     'turns: loop {
-        match turn_and_record(engine, script, steps, &mut unfinished, sink) {
+        match turn_and_record(engine, script, steps, waiting, &mut unfinished, sink) {
             Ok(Some(Standing::Running)) => {}
             Ok(Some(Standing::Ended)) => return end_records(unfinished, RunEnd::Done, sink),
             Ok(Some(Standing::Spent)) => return end_records(unfinished, RunEnd::Budget, sink),
@@ -156,7 +161,10 @@ fn open_and_record<B: Kind, K: Sink, L: Ledger>(
         return RunEnd::OutOfMemory;
     };
     let mut steps = Steps::<L>::new(blank);
-    record_turns(&mut engine, script, &mut steps, sink)
+    let Ok(mut waiting) = Vec::<Event>::with_capacity(alloc, MOST_WAITING) else {
+        return RunEnd::OutOfMemory;
+    };
+    record_turns(&mut engine, script, &mut steps, &mut waiting, sink)
 }
 
 /// Runs a script as `run_script` does, under the same conditions, and writes the records of its

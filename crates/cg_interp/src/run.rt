@@ -15,14 +15,15 @@ ghost use Rattle.cg_interp.specs.Turns.{StaysFit};
 ghost use Rattle.cg_interp.specs.Written.{WroteRun, WrotePart, WroteKept};
 ghost use Rattle.cg_interp.specs.Running.{MayWrite, MayRun, MayOpen, WritesTurn, CutsTurn};
 
+use crate::commands::MOST_WAITING;
 use crate::engine::Engine;
 use crate::turned::Standing;
-use crate::writing::write_answer;
+use crate::writing::write_turn;
 use cg_heap::{Heap, Steps};
 use cg_io::{Sink, WriteFailed};
 use cg_kind::Kind;
 use cg_laws::{fronts_begin_whole_texts, lines_are_printable, worlds_stay_kept};
-use cg_machine::LineText;
+use cg_machine::{Event, LineText};
 use cg_promises::{no_dead_lines, one_finalizer_each};
 use cg_script::Script;
 use std::alloc::Global;
@@ -47,6 +48,7 @@ fn turn_and_write<B: Kind, K: Sink, L: Ledger>(
     engine: &mut Engine<B>,
     script: &Script,
     steps: &mut Steps<L>,
+    waiting: &mut Vec<Event>,
     text: &mut LineText,
     sink: &mut K,
 ) -> Result<Standing, WriteFailed>
@@ -65,10 +67,11 @@ fn turn_and_write<B: Kind, K: Sink, L: Ledger>(
     ensures fit { StaysFit engine.old engine.new }
     ensures sound { IsSound engine.new.store }
 {
-    let answer = engine.turn(script, steps);
+    waiting.clear();
+    let answer = engine.turn(script, steps, waiting);
     // Heaps are bounded, so after a turn a collection has few lines and little work left.
     engine.heap.sound();
-    match write_answer(&answer, &script.names, text, sink) {
+    match write_turn(waiting, &answer, &script.names, text, sink) {
         Ok(()) => Ok(answer.standing()),
         Err(fault) => Err(fault),
     }
@@ -79,6 +82,7 @@ fn run_turns<B: Kind, K: Sink, L: Ledger>(
     engine: &mut Engine<B>,
     script: &Script,
     steps: &mut Steps<L>,
+    waiting: &mut Vec<Event>,
     sink: &mut K,
 ) -> RunEnd
     requires may { MayRun script.now engine.old }
@@ -97,7 +101,7 @@ fn run_turns<B: Kind, K: Sink, L: Ledger>(
     fronts_begin_whole_texts();
     let mut text = LineText::new();
     'turns: loop {
-        match turn_and_write(engine, script, steps, &mut text, sink) {
+        match turn_and_write(engine, script, steps, waiting, &mut text, sink) {
             Ok(Standing::Running) => {}
             Ok(Standing::Ended) => return RunEnd::Done,
             Ok(Standing::Spent) => return RunEnd::Budget,
@@ -135,7 +139,10 @@ fn open_and_run<B: Kind, K: Sink, L: Ledger>(
         return RunEnd::OutOfMemory;
     };
     let mut steps = Steps::<L>::new(blank);
-    run_turns(&mut engine, script, &mut steps, sink)
+    let Ok(mut waiting) = Vec::<Event>::with_capacity(alloc, MOST_WAITING) else {
+        return RunEnd::OutOfMemory;
+    };
+    run_turns(&mut engine, script, &mut steps, &mut waiting, sink)
 }
 
 /// Runs a script that some bytes spell, with a budget of at most 100,000 frames, on a new heap

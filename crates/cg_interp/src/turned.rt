@@ -1,5 +1,5 @@
 //! What a turn answers.
-ghost use Rattle.std.specs.Prelude.{◌≡◌};
+ghost use Rattle.std.specs.Prelude.{◌≡◌, ◌++◌};
 ghost use Rattle.std.specs.List.{list_any};
 ghost use Rattle.cg_interp.specs.Recorded.{wants_memory};
 ghost use Rattle.cg_interp.specs.Running.{events_told, standing_after};
@@ -48,7 +48,7 @@ impl Turned {
     }
 
     /// Whether one of its lines reports a command refused for memory.
-    pub fn wants_memory(&self) -> bool
+    fn wants_memory(&self) -> bool
         ensures { result ≡ list_any wants_memory (events_told self.now) }
     {
         match self {
@@ -74,4 +74,11 @@ fn any_wants_memory(events: &[Event]) -> bool
     ensures { result ≡ list_any wants_memory events.now }
 {
     events.iter().any(|event| wants_memory(event))
+}
+
+/// Whether one of the lines of a turn does: those that waited, and those of its answer.
+pub fn wants_memory_in(waits: &Vec<Event>, answer: &Turned) -> bool
+    ensures { result ≡ list_any wants_memory (waits.now.items ++ events_told answer.now) }
+{
+    any_wants_memory(waits.as_slice()) || answer.wants_memory()
 }

@@ -1,5 +1,5 @@
 //! Writing the lines of a run.
-ghost use Rattle.std.specs.Prelude.{flat_map, OnOk, OnErr};
+ghost use Rattle.std.specs.Prelude.{flat_map, ◌++◌, OnOk, OnErr};
 ghost use Rattle.std.specs.Io.KnownBytes.{Appends};
 ghost use Rattle.cg_io.specs.Causes.{HasCause, AppendsFront};
 ghost use Rattle.cg_graph.specs.Member.{Includes};
@@ -71,7 +71,7 @@ fn write_left<K: Sink>(
 }
 
 /// Writes the lines of a turn, if any.
-pub fn write_answer<K: Sink>(
+fn write_answer<K: Sink>(
     answer: &Turned,
     names: &Names,
     text: &mut LineText,
@@ -93,4 +93,24 @@ pub fn write_answer<K: Sink>(
         Turned::Left(number) => write_left(*number, names, text, sink),
         Turned::Spent => write_event(&Event::BudgetSpent, names, text, sink),
     }
+}
+
+/// Writes the lines that waited in a turn, and then those of its answer.
+pub fn write_turn<K: Sink>(
+    waits: &Vec<Event>,
+    answer: &Turned,
+    names: &Names,
+    text: &mut LineText,
+    sink: &mut K,
+) -> Result<(), WriteFailed>
+    requires { (event : AnyEvent) → Includes (waits.now.items ++ events_told answer.now) event
+        → IsPrintable names.now event }
+    ensures ok { OnOk result (Appends (K.written sink.old) (K.written sink.new)
+        (flat_map (line names.now) (waits.now.items ++ events_told answer.now))) }
+    ensures err { OnErr result (AppendsFront (K.written sink.old) (K.written sink.new)
+        (flat_map (line names.now) (waits.now.items ++ events_told answer.now))) }
+    ensures cause { HasCause (K.faults sink.old) (K.faults sink.new) result }
+{
+    write_events(waits.as_slice(), names, text, sink)?;
+    write_answer(answer, names, text, sink)
 }

@@ -11,3 +11,6 @@ record_turns-requires g c = record {
 
 pub returns-in_default-clause-memory : goal.returns-in_default-clause-memory
 returns-in_default-clause-memory g c = λ _. nothing_recorded c.no_run_is_stuck.ensures c.args.script.now _ _ _ (Appends-nil _)
+
+pub returns-in_default-with_capacity-clause-memory : goal.returns-in_default-with_capacity-clause-memory
+returns-in_default-with_capacity-clause-memory g c = λ _. nothing_recorded c.no_run_is_stuck.ensures c.args.script.now _ _ _ (Appends-nil _)

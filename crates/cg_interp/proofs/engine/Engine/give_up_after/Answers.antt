@@ -59,8 +59,8 @@ returns-in-None-clause-gives_up g c = λ script after changes sound.
     let e : State = engine_of c.self.inside.heap c.self.inside.policy c.self.inside.stack c.self.inside.budget c.self.inside.first_budget in
     let stood = change_stands script top e c.args.given_up c.new-release.result after c.new-release.ensures (subst (λ s. Changes script top s c.args.given_up after) (sym c.self.view_is) changes) in
     let goes = c.in-None.ensures.releases script (under top e) (releasing c.args.given_up after) stood sound in
-    c.tell_line.ensures.tells script (releasing c.args.given_up after) (record {
+    record {
       after = goes.after;
       goes = quietly script (releasing c.args.given_up after) goes.after (release_detects_none script c.new-release.result (under top e) (releasing c.args.given_up after) stood) goes.goes;
       stands = goes.stands;
-    })
+    }

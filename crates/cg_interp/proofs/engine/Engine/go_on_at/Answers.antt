@@ -1,13 +1,20 @@
-use Rattle.std.proofs.Common.{sym, ◌∙◌, ap, Some, [], arith}
+use Rattle.cg_interp.specs.Telling.{TurnsBy}
+use Rattle.cg_interp.specs.Quietly.{ComesBy}
+use Rattle.std.proofs.Common.{subst, sym, ◌∙◌, ap, Some, [], arith}
 use Rattle.cg_interp.specs.declared.activity.Activity.TheVariants as activity_of
 use Rattle.cg_interp.specs.Engines.{commands_from}
 use Rattle.cg_interp.proofs.LawsOfEngines.{has_room}
 use Rattle.cg_interp.proofs.AnswersOfTurns.{turns_plainly}
-use Rattle.cg_interp.proofs.RoomStays.{fit_then}
-use Rattle.cg_interp.proofs.SilentTurns.{at_turn_then, comes_from_then, turns_from_then}
+use Rattle.cg_interp.proofs.RoomStays.{fit_here, fit_then}
+use Rattle.cg_interp.proofs.SilentTurns.{comes_here, at_turn_then, tells_then, tells_from_then, turns_from_then}
 use Rattle.cg_interp.proofs.StepLemmas.{caller_detects_none, comes_next}
 use Rattle.cg_interp.specs.Callers.{frame_caller}
 use Rattle.cg_interp.proofs.engine.Engine.go_on_at.Goals as goal
+
+pub commands-init : goal.commands-init
+commands-init g c =
+    let top = activity_of.Frame c.args.locals c.args.procedure (Some c.args.number) in
+    record { comes = subst (λ es. ComesBy c.args.script.now es top c.args.self.now top c.args.self.now) (sym c.requires.empty) (comes_here c.args.script.now top c.args.self.now); fit = fit_here c.args.self.now }
 
 pub make_changes-requires : goal.make_changes-requires
 make_changes-requires g c = record {
@@ -42,13 +49,15 @@ pub returns-in-Some-step-clause-turns : goal.returns-in-Some-step-clause-turns
 returns-in-Some-step-clause-turns g c =
     let before = activity_of.Frame c.args.locals c.args.procedure (Some c.commands.number) in
     let changed = activity_of.Frame c.args.locals c.args.procedure (Some c.make_changes.new.number) in
-    turns_from_then c.args.script.now (activity_of.Frame c.args.locals c.args.procedure (Some c.args.number)) before c.args.self.now c.commands.self c.commands.invariant.comes c.commands.invariant.fit
+    subst (λ es. TurnsBy c.args.script.now es (activity_of.Frame c.args.locals c.args.procedure (Some c.args.number)) c.args.self.now c.step.new.self c.in-Some-step.answer)
+    (sym c.in-Some-step.ensures.waits)
+    (turns_from_then c.args.script.now (activity_of.Frame c.args.locals c.args.procedure (Some c.args.number)) before c.args.self.now c.commands.self c.commands.invariant.comes c.commands.invariant.fit
     (λ w. caller_detects_none c.args.script.now c.commands.self w (frame_caller c.args.locals c.args.procedure (Some c.commands.number))) _ _
     (turns_from_then c.args.script.now before changed c.commands.self c.make_changes.new.self (c.in-None.ensures.steps c.args.script.now c.body_of-body.ensures) c.make_changes.ensures.fit
     (λ w. caller_detects_none c.args.script.now c.make_changes.new.self w (frame_caller c.args.locals c.args.procedure (Some c.make_changes.new.number))) _ _
     (c.in-Some-step.ensures.steps c.args.script.now
     (comes_next c.args.script.now c.args.locals c.args.procedure (Some c.make_changes.new.number) c.in-Some-next_of.command.now c.in-Some-next_of.after
-    c.body_of-body.result.now c.body_of-body.ensures c.in-Some-next_of.ensures.some)))
+    c.body_of-body.result.now c.body_of-body.ensures c.in-Some-next_of.ensures.some))))
 
 pub commands-preserved : goal.commands-preserved
 commands-preserved g c =
@@ -57,10 +66,10 @@ commands-preserved g c =
     let after = activity_of.Frame c.args.locals c.args.procedure (Some c.in-Some-next_of.after) in
     record {
       comes =
-          comes_from_then c.args.script.now (activity_of.Frame c.args.locals c.args.procedure (Some c.args.number)) before c.args.self.now c.commands.self
-          c.commands.invariant.comes c.commands.invariant.fit after c.step.new.self
-          (comes_from_then c.args.script.now before changed c.commands.self c.make_changes.new.self (c.in-None.ensures.steps c.args.script.now
-          c.body_of-body.ensures) c.make_changes.ensures.fit after c.step.new.self
+          tells_then c.args.script.now (activity_of.Frame c.args.locals c.args.procedure (Some c.args.number)) before c.args.self.now c.commands.self
+          c.commands.invariant.comes c.commands.invariant.fit c.step.new.waiting.items after c.step.new.self
+          (tells_from_then c.args.script.now before changed c.commands.self c.make_changes.new.self (c.in-None.ensures.steps c.args.script.now
+          c.body_of-body.ensures) c.make_changes.ensures.fit c.commands.waiting.items c.step.new.waiting.items after c.step.new.self
           (c.in-None-step.ensures.steps c.args.script.now
           (comes_next c.args.script.now c.args.locals c.args.procedure (Some c.make_changes.new.number) c.in-Some-next_of.command.now c.in-Some-next_of.after
           c.body_of-body.result.now c.body_of-body.ensures c.in-Some-next_of.ensures.some)));

@@ -1,4 +1,5 @@
-use Rattle.std.proofs.Common.{ap, [], arith}
+use Rattle.std.proofs.Common.{ap, [], arith, subst, sym}
+use Rattle.cg_interp.specs.Telling.{TurnsAfter}
 use Rattle.cg_machine.specs.Program.{body_of}
 use Rattle.cg_interp.specs.declared.activity.Activity.TheVariants as activity_of
 use Rattle.cg_interp.specs.Engines.{commands_from}
@@ -13,5 +14,6 @@ leave-requires g c =
 
 pub returns-in-None-clause-turns : goal.returns-in-None-clause-turns
 returns-in-None-clause-turns g c = λ w stands kept.
-    turns_plainly c.args.script.now w c.leave.new.self c.leave.result
-    (c.leave.ensures.leaves c.args.script.now c.args.procedure c.args.next w (ap (λ n. commands_from n (body_of c.args.script.now c.args.procedure)) c.in-None.is) stands)
+    subst (λ es. TurnsAfter c.args.script.now (λ still. ⊥) w [] c.leave.new.self es c.leave.result) (sym c.requires.empty)
+    (turns_plainly c.args.script.now w c.leave.new.self c.leave.result
+    (c.leave.ensures.leaves c.args.script.now c.args.procedure c.args.next w (ap (λ n. commands_from n (body_of c.args.script.now c.args.procedure)) c.in-None.is) stands))

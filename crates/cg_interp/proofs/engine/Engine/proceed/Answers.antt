@@ -1,11 +1,11 @@
-use Rattle.std.proofs.Common.{sym, subst, inl, Ok}
+use Rattle.std.proofs.Common.{sym, subst, inl, Ok, Some, None}
 use Rattle.cg_value.specs.declared.Val.TheVariants as val_of
 use Rattle.cg_graph.specs.Value.{item}
 use Rattle.cg_heap.specs.Calls.{HasFewHolds}
 use Rattle.cg_machine.specs.Commands.{effect}
 use Rattle.cg_machine.specs.Frame.{start_frame}
 use Rattle.cg_interp.specs.Callers.{caller_activity, IsPerformed, HasPerformed, transition_of_change, call_of}
-use Rattle.cg_interp.proofs.AnswerLemmas.{call_may, quit_may, may_give_up, change_runs, told, as_before, called_lives}
+use Rattle.cg_interp.proofs.AnswerLemmas.{call_may, quit_may, may_give_up, change_runs, tells_to, told, as_before, called_lives}
 use Rattle.cg_interp.proofs.engine.Engine.proceed.Goals as goal
 
 pub give_up_after-requires-clause-stands : goal.give_up_after-requires-clause-stands
@@ -14,11 +14,18 @@ give_up_after-requires-clause-stands g c =
     let has = subst (λ d. HasPerformed script (caller_activity c.args.caller.now) c.args.self.now (Ok d)) c.in-Changed.is performed in
     may_give_up script c.args.self.now (caller_activity c.args.caller.now) has.world has.command has.before has.was c.in-Changed.line c.in-Changed.given_up has.performed
 
-pub returns-in-Changed-clause-does : goal.returns-in-Changed-clause-does
-returns-in-Changed-clause-does g c = λ script w command before was performed.
+pub returns-in-Some-clause-does : goal.returns-in-Some-clause-does
+returns-in-Some-clause-does g c = λ script w command before was performed.
     let p = subst (λ d. IsPerformed script (caller_activity c.args.caller.now) c.args.self.now w command before was (Ok d)) c.in-Changed.is performed in
     change_runs script c.args.self.now (caller_activity c.args.caller.now) w command before was c.in-Changed.line c.in-Changed.given_up p
-    c.give_up_after.new.self c.give_up_after.result c.give_up_after.ensures.gives_up
+    c.give_up_after.new.self (Some c.in-Some.answer) c.in-Some.ensures.gives_up
+
+pub returns-in-None-clause-does : goal.returns-in-None-clause-does
+returns-in-None-clause-does g c = λ script w command before was performed.
+    let p = subst (λ d. IsPerformed script (caller_activity c.args.caller.now) c.args.self.now w command before was (Ok d)) c.in-Changed.is performed in
+    tells_to script w command (caller_activity c.args.caller.now) c.give_up_after.new.self c.tell_line.new.self c.in-Changed.line _ _ c.tell_line.result
+    (change_runs script c.args.self.now (caller_activity c.args.caller.now) w command before was c.in-Changed.line c.in-Changed.given_up p
+    c.give_up_after.new.self None c.in-None.ensures.gives_up) c.tell_line.ensures.tells
 
 pub call-requires-clause-few : goal.call-requires-clause-few
 call-requires-clause-few g c =

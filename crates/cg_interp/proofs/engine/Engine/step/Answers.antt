@@ -1,4 +1,4 @@
-use Rattle.std.proofs.Common.{sym, ◌∙◌, ap, subst, [], None, Some, false, arith}
+use Rattle.std.proofs.Common.{refl, sym, ◌∙◌, ap, subst, [], None, Some, false, arith}
 use Rattle.cg_heap.specs.Calls.{IsSound}
 use Rattle.cg_machine.specs.World.{push}
 use Rattle.cg_machine.specs.Commands.{new_collection}
@@ -8,7 +8,7 @@ use Rattle.cg_interp.specs.Engines.{State, under}
 use Rattle.cg_interp.specs.Callers.{caller_activity, with_next}
 use Rattle.cg_interp.proofs.RoomStays.{still_fit}
 use Rattle.cg_interp.proofs.LawsOfEngines.{has_room}
-use Rattle.cg_interp.proofs.StepLemmas.{due_in, kept_after, begins_collection, caller_collects, caller_doable, caller_live, may_command, at_command, steps_from}
+use Rattle.cg_interp.proofs.StepLemmas.{due_in, kept_after, begins_collection, caller_collects, caller_doable, caller_live, may_command, at_command, steps_told, quiet_step}
 use Rattle.cg_interp.proofs.engine.Engine.step.Goals as goal
 
 pub collect_first-requires-clause-stands : goal.collect_first-requires-clause-stands
@@ -74,12 +74,13 @@ pub step_change-requires-clause-stands : goal.step_change-requires-clause-stands
 step_change-requires-clause-stands g c = let (script, is_next, at) = c.requires.stands in (script, c.args.next, is_next, at)
 
 pub returns-then-only_changes-clause-steps : goal.returns-then-only_changes-clause-steps
-returns-then-only_changes-clause-steps g c = λ script is_next. c.step_change.ensures.steps script c.args.next is_next
+returns-then-only_changes-clause-steps g c = λ script is_next.
+    quiet_step script c.args.caller.now c.args.next c.args.self.now c.step_change.new.self _ _ refl c.step_change.result (c.step_change.ensures.steps script c.args.next is_next)
 
 pub returns-else-only_changes-clause-steps : goal.returns-else-only_changes-clause-steps
 returns-else-only_changes-clause-steps g c = λ script is_next.
-    steps_from script c.args.caller.now c.args.next c.args.command.now c.args.self.now c.run.new.self is_next
+    steps_told script c.args.caller.now c.args.next c.args.command.now c.args.self.now c.run.new.self is_next
     (λ w stands. due_in script (under (caller_activity (with_next c.args.next c.args.caller.now)) c.args.self.now) w None stands (sym c.in-None.is
     ∙ c.due.ensures ∙ ap (λ (e : State). due_of e.policy) c.self.view_is))
-    c.run.result
+    _ _ c.run.result
     (c.run.ensures.does script)

@@ -3,7 +3,7 @@ use Rattle.cg_laws.specs.Kept.{StaysKept}
 use Rattle.cg_interp.specs.Engines.{State, under}
 use Rattle.cg_interp.specs.Stacks.{death_on, asked_on}
 use Rattle.cg_interp.specs.Collecting.{StandsWith}
-use Rattle.cg_interp.specs.Telling.{Advances, TurnsWith}
+use Rattle.cg_interp.specs.Telling.{Advances, TurnsAfter}
 use Rattle.cg_interp.proofs.CollectMoves.{engine_of}
 use Rattle.cg_interp.proofs.RoomStays.{fit_then, popped_fit, under_fit}
 use Rattle.cg_interp.proofs.TurnLemmas.{stands_alike, something_on_top}
@@ -49,10 +49,10 @@ pub returns-clause-turns : goal.returns-clause-turns
 returns-clause-turns g c = λ w left stands kept.
     let popped : State = record c.args.self.now { activities = c.pop.new.self.activities; room = c.pop.new.self.room } in
     let top_is = ap (λ (e : State). e.activities) (sym c.self.view_is) ∙ c.in-Some.ensures.top in
-    subst (λ activities. TurnsWith c.args.script.now (Advances (record c.args.self.now { activities = activities }) left c.turn_of.new.self) w left c.turn_of.new.self c.turn_of.result) (sym top_is)
-    (subst (λ (e : State). TurnsWith c.args.script.now
+    subst (λ activities. TurnsAfter c.args.script.now (Advances (record c.args.self.now { activities = activities }) left c.turn_of.new.self) w left c.turn_of.new.self c.turn_of.new.waiting.items c.turn_of.result) (sym top_is)
+    (subst (λ (e : State). TurnsAfter c.args.script.now
     (Advances (under c.in-Some.top (record e { activities = c.pop.new.self.activities; room = c.pop.new.self.room })) left c.turn_of.new.self) w left
-    c.turn_of.new.self c.turn_of.result) c.self.view_is
+    c.turn_of.new.self c.turn_of.new.waiting.items c.turn_of.result) c.self.view_is
     (c.turn_of.ensures.turns w left
     (subst (λ (e : State). StandsWith c.args.script.now (under c.in-Some.top (record e { activities = c.pop.new.self.activities; room = c.pop.new.self.room })) left w) (sym c.self.view_is)
     (stands_alike c.args.script.now c.args.self.now (under c.in-Some.top popped) left w refl refl (sym top_is) refl stands))
