@@ -14,8 +14,8 @@ use Rattle.cg_arena.specs.declared.slot.Marks.{Marks}
 use Rattle.cg_arena.specs.declared.slot.Marks.TheVariants.{Neither, Classed, Finalized, Both}
 use Rattle.cg_arena.specs.declared.index.SlotIndex.{SlotIndex}
 use Rattle.cg_arena.specs.declared.ends.Ends.{Ends}
-use Rattle.cg_arena.specs.Nodes.{Nodes, ArenaNode, HasNode, IsPlace, count_in, count_of, with_node_changed, node_finalized, node_counted_up, node_counted_down, node_lowered, counted_up, counted_down, count_in_list}
-use Rattle.cg_arena.specs.Slots.{before_in, after_in, serial_in, place_in_slot, node_in, node_of, before_of, after_of, with_count, with_mark, with_lowered}
+use Rattle.cg_arena.specs.Nodes.{Nodes, ArenaNode, HasNode, IsPlace, count_in, count_of, with_node_changed, node_finalized, node_counted_up, node_counted_down, counted_up, counted_down, count_in_list}
+use Rattle.cg_arena.specs.Slots.{before_in, after_in, serial_in, place_in_slot, node_in, node_of, before_of, after_of, with_count, with_mark}
 use Rattle.cg_arena.specs.Links.{rewritten}
 use Rattle.cg_arena.specs.Table.{nodes_of, rows_of, serials_of, room_of, IsSpelled, IsNamed, ends_at, row_of, IsSound}
 use Rattle.cg_arena.specs.Index.{guess_at, IsIndexOf, Finds, HasRow, IsKept}
@@ -227,9 +227,6 @@ module _ (s : Slab Slot) (ends : List Ends) (x : SlotIndex) (kept : IsKept s x e
   pub index_kept : IsIndexOf s x
   index_kept = record { finds = kept.indexed; names = kept.sound.names }
 
-  pub lower_kept : (k : ℕ) (new : Slab Slot) → new ≡ rewritten with_lowered k s → IsKept new x ends
-  lower_kept k = field_kept with_lowered (λ c. refl) (λ c. refl) (λ c. refl) (λ c. refl) s ends x kept k
-
   pub count_kept : (n k : ℕ) (new : Slab Slot) → new ≡ rewritten (with_count n) k s → IsKept new x ends
   count_kept n k = field_kept (with_count n) (λ c. refl) (λ c. refl) (λ c. refl) (λ c. refl) s ends x kept k
 
@@ -274,6 +271,3 @@ module _ (s : Slab Slot) (ends : List Ends) (x : SlotIndex) (kept : IsKept s x e
           left =
               ap (λ (u : Nodes). count_of u t) (down ∙ sym (down_once t v))
               ∙ ap count_in (get-changed_same (node_counted_down 1) t v.nodes t refl ∙ ap (option_map (node_counted_down 1)) node_is)
-
-      pub lower_view : (new : Slab Slot) → new ≡ rewritten with_lowered k s → value_of new ends (rows_of new) spare ≡ with_node_changed node_lowered t v
-      lower_view new is = field_view with_lowered (λ d. refl) (λ d. refl) (λ d. refl) (λ d. refl) s ends x kept k new is spare v view_is node_lowered t c row_is slot_is refl

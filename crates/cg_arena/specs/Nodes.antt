@@ -137,14 +137,6 @@ node_finalized n = record n { finalized = true }
 abbrev pub node_numbered : ℕ → ArenaNode → ArenaNode
 node_numbered number n = record n { number = number }
 
--- a candidate's number falls by one, if it is above 0
-abbrev pub number_lowered : Place → ℕ → ℕ
-number_lowered Cand number = number - 1
-number_lowered place number = number
-
-abbrev pub node_lowered : ArenaNode → ArenaNode
-node_lowered n = record n { number = number_lowered n.place n.number }
-
 abbrev pub node_placed : Place → ArenaNode → ArenaNode
 node_placed p n = record n { place = p }
 

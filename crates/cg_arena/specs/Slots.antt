@@ -3,7 +3,7 @@ use Rattle.std.specs.Prelude.{ℕ, ◌-◌, ◌^◌, ◌==◌, Bool, true, false
 use Rattle.cg_value.specs.declared.Place.{Place}
 use Rattle.cg_value.specs.declared.Place.TheVariants.{Untracked, Gen}
 use Rattle.cg_value.specs.declared.KindCode.TheVariants.{List as ListCode}
-use Rattle.cg_arena.specs.Nodes.{ArenaNode, new_node, number_lowered}
+use Rattle.cg_arena.specs.Nodes.{ArenaNode, new_node}
 use Rattle.cg_arena.specs.declared.slot.Slot.{Slot}
 use Rattle.cg_arena.specs.declared.slot.Marks.{Marks}
 use Rattle.cg_arena.specs.declared.slot.Marks.TheVariants.{Neither, Classed, Finalized, Both}
@@ -77,9 +77,6 @@ with_mark c = record c { marks = if says_classed c.marks then Both else Finalize
 
 abbrev pub with_number : ℕ → Slot → Slot
 with_number number c = record c { number = number }
-
-abbrev pub with_lowered : Slot → Slot
-with_lowered c = with_number (number_lowered c.place c.number) c
 
 -- the parts of an optional slot
 abbrev pub before_in : Option Slot → Option ℕ

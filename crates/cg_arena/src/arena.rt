@@ -4,15 +4,15 @@ ghost use Rattle.std.specs.FinMap as map;
 ghost use Rattle.slab.specs.Slab.{get, slab_len, HasRoomFor, Updates};
 ghost use Rattle.indexmap.specs.IndexMap.{spare};
 ghost use Rattle.cg_graph.specs.Places.{place_number};
-ghost use Rattle.cg_arena.specs.Slots.{generation_in, with_count, with_lowered};
+ghost use Rattle.cg_arena.specs.Slots.{generation_in, with_count};
 ghost use Rattle.cg_arena.specs.Links.{rewritten};
 ghost use Rattle.cg_arena.specs.Index.{HasRow};
 
 use crate::ends::Ends;
 use crate::index::{SlotIndex, node_if};
 use crate::links::{
-    append, join, lower_candidate, mark_finalized, place_all, place_last, serial_at, set_count,
-    set_number, slot_at, unlink,
+    append, join, mark_finalized, place_all, place_last, serial_at, set_count, set_number, slot_at,
+    unlink,
 };
 use crate::near::Near;
 use crate::slot::{Head, NIL, Slot};
@@ -136,18 +136,8 @@ fn dec_by_row(index: &SlotIndex, slots: &mut Slab<Slot>, serial: u64) -> bool
     count == 0
 }
 
-/// `lower` by row, for a node that is not in its guessed slot.
-#[inline(never)]
-fn lower_by_row(index: &SlotIndex, slots: &mut Slab<Slot>, serial: u64)
-    requires { HasRow slots.old index.now serial }
-    ensures { (r : HasRow slots.old index.now serial) → slots.new ≡ rewritten with_lowered r.at
-        slots.old }
-{
-    lower_candidate(slots, index.slot_by_row(serial));
-}
-
 impl Arena {
-    ghost use Rattle.cg_arena.specs.Nodes.{HasNode, IsPlace, TakesNumber, IsListed, count_of as count_at, place_of as place_at, list_at, following, no_nodes, new_node, with_room, with_node, without_node, with_node_changed, node_finalized, node_numbered, node_lowered, counted_up, counted_down, with_node_moved, with_lists_merged};
+    ghost use Rattle.cg_arena.specs.Nodes.{HasNode, IsPlace, TakesNumber, IsListed, count_of as count_at, place_of as place_at, list_at, following, no_nodes, new_node, with_room, with_node, without_node, with_node_changed, node_finalized, node_numbered, counted_up, counted_down, with_node_moved, with_lists_merged};
     ghost use Rattle.cg_arena.specs.Slots.{node_of};
 
     /// An arena without nodes. It allocates nothing yet.
@@ -554,20 +544,6 @@ impl Arena {
     {
         let (at, slot) = self.index.slot_near(&self.slots, serial, near);
         set_number(&mut self.slots, at, slot.count);
-    }
-
-    /// Lowers the collector's number of a candidate by 1, if it is above 0; any other node is
-    /// unchanged.
-    #[inline(always)]
-    pub fn lower(&mut self, serial: u64)
-        requires { HasNode self.old serial }
-        ensures { self.new ≡ with_node_changed node_lowered serial self.old }
-    {
-        let guess = self.index.guess(serial);
-        match node_if(&self.slots, guess, serial) {
-            Some(_) => lower_candidate(&mut self.slots, guess),
-            None => lower_by_row(&self.index, &mut self.slots, serial),
-        }
     }
 
     /// Moves the node to the end of the list of a place, which may be its own. (Ours; CPython's

@@ -1,7 +1,7 @@
 //! Nodes in slots, and the links between them.
 ghost use Rattle.std.specs.Prelude.{◌≡◌, Some, None, option_and_then, option_map, ◌+◌, ◌<◌, ◌^◌};
 ghost use Rattle.slab.specs.Slab.{get, ContainsKey};
-ghost use Rattle.cg_arena.specs.Slots.{with_place, with_count, with_mark, with_number, with_lowered, with_before, with_after, placed_last, after_in, before_of, after_of};
+ghost use Rattle.cg_arena.specs.Slots.{with_place, with_count, with_mark, with_number, with_before, with_after, placed_last, after_in, before_of, after_of};
 ghost use Rattle.cg_arena.specs.Links.{rewritten, link_set, tied, ends_without, ends_joined, one_end, place_set, all_placed, chain_from};
 
 use crate::ends::Ends;
@@ -58,16 +58,6 @@ pub fn set_number(slots: &mut Slab<Slot>, at: usize, number: u32)
 {
     if let Some(slot) = slots.get_mut(at) {
         slot.number = number;
-    }
-}
-
-/// Lowers the collector's number of a candidate, if it is above 0.
-#[inline(always)]
-pub fn lower_candidate(slots: &mut Slab<Slot>, at: usize)
-    ensures { slots.new ≡ rewritten with_lowered at slots.old }
-{
-    if let Some(slot) = slots.get_mut(at) {
-        slot.lower();
     }
 }
 

@@ -70,7 +70,7 @@ pub struct Slot {
 const _: () = prove!(size_of::<Slot>() == 40);
 
 impl Slot {
-    ghost use Rattle.cg_arena.specs.Slots.{node_of, class_of, says_finalized, with_mark, with_lowered, with_before, with_after, before_of, after_of};
+    ghost use Rattle.cg_arena.specs.Slots.{node_of, class_of, says_finalized, with_mark, with_before, with_after, before_of, after_of};
 
     /// A new node after a slot: count 0, not finalized, collector's number 0.
     pub fn new(
@@ -132,16 +132,6 @@ impl Slot {
         } else {
             Marks::Finalized
         };
-    }
-
-    /// Lowers the collector's number of a candidate, if it is above 0.
-    #[inline(always)]
-    pub fn lower(&mut self)
-        ensures { self.new ≡ with_lowered self.old }
-    {
-        if let Place::Cand = self.place {
-            self.number = self.number.saturating_sub(1);
-        }
     }
 
     /// The previous slot in its list.

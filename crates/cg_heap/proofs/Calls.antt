@@ -20,16 +20,16 @@ use Rattle.cg_graph.specs.Rows.{Row}
 use Rattle.cg_graph.specs.Store.{Store, Node, outside_of, count_of, IsLive, HasCode, entries_of, place_of, held_within}
 use Rattle.cg_graph.specs.Changes.{held, unheld, rewritten, named, moved, made, more}
 use Rattle.cg_graph.proofs.Maps.{same_map, get-mapped}
-use Rattle.cg_arena.specs.Nodes.{ArenaNode, Nodes, count_in, counted_up, counted_down, node_counted_up, new_node as new_arena_node, with_room, with_node as with_arena_node, with_node_changed, with_node_moved, with_lists_merged, node_finalized, node_numbered, node_lowered, following, IsListed as IsArenaListed, count_in_list, place_of as arena_place_of, place_in as arena_place_in}
+use Rattle.cg_arena.specs.Nodes.{ArenaNode, Nodes, count_in, counted_up, counted_down, node_counted_up, new_node as new_arena_node, with_room, with_node as with_arena_node, with_node_changed, with_node_moved, with_lists_merged, node_finalized, node_numbered, following, IsListed as IsArenaListed, count_in_list, place_of as arena_place_of, place_in as arena_place_in}
 use Rattle.cg_heap.specs.declared.heap.objects.Objects.{Objects}
 use Rattle.cg_heap.proofs.ReferenceLemmas.{occurrences-le, reference-le, name-le, references-le}
 use Rattle.cg_heap.specs.Boxes.{HasBody, bodies_at, boxes_with_body}
 use Rattle.cg_heap.specs.Keeps.{HeapKeeps, Alike, store_of, node_from, seat_in, HasClass}
-use Rattle.cg_heap.specs.Calls.{HasFewHolds, object_number, entry_number, code_of, IsMutable, IsLiveValue, value_in, with_put, merged, marked, with_number, lowered, with_node, IsSound, IsListed}
+use Rattle.cg_heap.specs.Calls.{HasFewHolds, object_number, entry_number, code_of, IsMutable, IsLiveValue, value_in, with_put, merged, marked, with_number, with_node, IsSound, IsListed}
 use Rattle.cg_heap.proofs.HeapIsStore.{Closed, closed, keeps-held, keeps-unheld, live-mapped}
 use Rattle.cg_heap.proofs.Room.{room-below, live-node, one-enough, counted-has}
 use Rattle.cg_heap.proofs.TakenEntries.{held-live}
-use Rattle.cg_heap.proofs.Moves.{keeps-named, keeps-moved, keeps-marked, keeps-numbered, keeps-lowered, keeps-merged, same-place}
+use Rattle.cg_heap.proofs.Moves.{keeps-named, keeps-moved, keeps-marked, keeps-numbered, keeps-merged, same-place}
 use Rattle.cg_heap.proofs.CountAll.{count-le, none-counted}
 use Rattle.cg_heap.proofs.Makes.{keeps-made}
 use Rattle.cg_heap.specs.Keeps.{RowsAndHolds, outside_total}
@@ -231,13 +231,6 @@ module _ {all : List Bodies} {v : Nodes} {names : List (Option Val)} {last : ℕ
       (closed all (with_node_changed (node_numbered k) o v) objects number (with_node (with_number k) o was) (keeps-numbered all v objects number was h.keeps.0 o k)
       (kept was (with_node (with_number k) o was) (kinds-with_node (with_number k) (λ n. refl) o was) refl
       (omega (arith, total-with_node (with_number k) (λ n. refl) o was, h.keeps.1.holds)) h.keeps.1) refl))
-
-  pub after_lower : (o : ℕ) (v' : Nodes) → v' ≡ with_node_changed node_lowered o v → Closed all v' names last rows objects number (with_node lowered o old)
-  after_lower o v' e =
-      subst (λ s. Closed all v' names last rows objects number (with_node lowered o s)) h.is
-      (subst (λ w. Closed all w names last rows objects number (with_node lowered o was)) (sym e)
-      (closed all (with_node_changed node_lowered o v) objects number (with_node lowered o was) (keeps-lowered all v objects number was h.keeps.0 o)
-      (kept was (with_node lowered o was) (kinds-with_node lowered (λ n. refl) o was) refl (omega (arith, total-with_node lowered (λ n. refl) o was, h.keeps.1.holds)) h.keeps.1) refl))
 
   -- each object is once in the list of its place
   places_alike : (s : ℕ) → option_map (λ (n : ArenaNode). n.place) (fin.get v.nodes s) ≡ option_map (λ (n : Node). n.place) (fin.get was.nodes s)

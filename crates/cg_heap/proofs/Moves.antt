@@ -17,12 +17,12 @@ use Rattle.cg_graph.specs.Places.{place_number}
 use Rattle.cg_graph.specs.Store.{Store, Node, held_within, held_by, inner, count_of, IsLive, entries_of, entries_in, outside_in, place_of, place_in}
 use Rattle.cg_graph.specs.Changes.{held, named, with_place}
 use Rattle.cg_graph.proofs.Maps.{total-remove, get-remove_same, get-remove_other}
-use Rattle.cg_arena.specs.Nodes.{ArenaNode, Nodes, count_in, counted_up, node_placed, node_finalized, node_numbered, node_lowered, place_of as arena_place_of, place_in as arena_place_in, place_merged as arena_place_merged}
+use Rattle.cg_arena.specs.Nodes.{ArenaNode, Nodes, count_in, counted_up, node_placed, node_finalized, node_numbered, place_of as arena_place_of, place_in as arena_place_in, place_merged as arena_place_merged}
 use Rattle.cg_heap.specs.declared.heap.objects.Objects.{Objects}
 use Rattle.cg_heap.proofs.HoldLemmas.{outside-held, name-sum, name_holds}
 use Rattle.cg_heap.specs.Boxes.{code_index, bodies_at, HasBody, spare_in_box}
 use Rattle.cg_heap.specs.Keeps.{HeapKeeps, Alike, size, one, node_from, seat_in, IsWellMade, IsWellMadeAt, IsGarbage}
-use Rattle.cg_heap.specs.Calls.{place_merged, marked, with_number, lowered}
+use Rattle.cg_heap.specs.Calls.{place_merged, marked, with_number}
 use Rattle.cg_heap.proofs.HeapIsStore.{shape-up, shape-held, up-counts, held-inner, held-ones, held-well, held-sizes, held-entries, keeps-counts, seat-up}
 use Rattle.cg_heap.proofs.Rewrites.{object-of, bodies_gone, spare-left}
 use Rattle.cg_heap.proofs.TakenEntries.{held-live}
@@ -131,10 +131,6 @@ module _ (all : List Bodies) (v : Nodes) (objects : Objects) (number : ℕ) (sto
 
   pub keeps-numbered : (o k : ℕ) → HeapKeeps all (changed (node_numbered k) o v.nodes) objects number (record store { nodes = changed (with_number k) o store.nodes })
   keeps-numbered o k = keeps-changed (node_numbered k) (with_number k) (λ n. refl) (λ x n j e. ap (with_number k) e) (λ x. refl) (λ x. refl) (λ n. refl)
-      (λ x h. record { items = h.items; classed = h.classed; single = h.single }) o
-
-  pub keeps-lowered : (o : ℕ) → HeapKeeps all (changed node_lowered o v.nodes) objects number (record store { nodes = changed lowered o store.nodes })
-  keeps-lowered o = keeps-changed node_lowered lowered (λ n. refl) (λ x n j e. ap lowered e) (λ x. refl) (λ x. refl) (λ n. refl)
       (λ x h. record { items = h.items; classed = h.classed; single = h.single }) o
 
   -- all objects of a place move to another

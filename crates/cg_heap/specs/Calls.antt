@@ -17,7 +17,7 @@ use Rattle.cg_graph.specs.Places.{place_number, list_of, merge_lists}
 use Rattle.cg_graph.specs.Store.{Store, Node, IsLive, HasCode, entries_of, inner, count_of}
 use Rattle.cg_graph.specs.Changes.{held, unheld, rewritten, named, made, moved, with_place}
 use Rattle.cg_graph.specs.declared.limits.TheConstants.{MOST_ENTRIES, MOST_OBJECTS}
-use Rattle.cg_arena.specs.Nodes.{count_in_list, number_lowered}
+use Rattle.cg_arena.specs.Nodes.{count_in_list}
 use Rattle.cg_heap.specs.Keeps.{size, one, IsWellMadeAt, IsGarbage, outside_total}
 use Rattle.cg_heap.specs.Weak.{AreRows, attached}
 
@@ -142,10 +142,6 @@ marked n = record n { finalized = true }
 -- one object with another collector's number
 abbrev pub with_number : ℕ → Node → Node
 with_number number n = record n { number = number }
-
--- one object with its number lowered by one, if it is a candidate and the number is above 0
-abbrev pub lowered : Node → Node
-lowered n = record n { number = number_lowered n.place n.number }
 
 abbrev pub with_node : (Node → Node) → ℕ → Store → Store
 with_node f o store = record store { nodes = changed f o store.nodes }

@@ -1,5 +1,5 @@
 -- The effect of a heap's calls on what the search sees of it.
-use Rattle.std.proofs.Common.{◌≡◌, ◌≢◌, refl, sym, ◌∙◌, ap, subst, ℕ, ◌+◌, ◌-◌, ◌<◌, inl, inr, List, [], ◌∷◌, ◌++◌, Bool, true, false, cond, set, Option, Some, None, IsSome, arith}
+use Rattle.std.proofs.Common.{◌≡◌, ◌≢◌, refl, sym, ◌∙◌, ap, subst, ℕ, ◌+◌, ◌<◌, inl, inr, List, [], ◌∷◌, ◌++◌, Bool, true, false, cond, set, Option, Some, None, IsSome, arith}
 use Rattle.std.specs.Prelude.{◌==◌, if◌then◌else◌, is_some, option_map, IfSome}
 use Rattle.std.specs.FinMap as fin
 use Rattle.std.specs.Ordering.{nat_cmp}
@@ -11,14 +11,11 @@ use Rattle.cg_graph.specs.Places.{place_number, list_of, without_serial, leaves_
 use Rattle.cg_graph.specs.Store.{Store, Node, list_at, place_of, place_in, IsLive, entries_in, held_within, held_by, outside_in}
 use Rattle.cg_graph.specs.Changes.{moved, with_place}
 use Rattle.cg_graph.proofs.Maps.{get-mapped, total-mapped, get-changed_same, get-changed_other}
-use Rattle.cg_arena.specs.Nodes.{IsPlace, number_lowered}
-use Rattle.cg_value.specs.declared.Place.TheVariants.{Cand}
-use Rattle.cg_graph.specs.Member.{Includes}
-use Rattle.cg_graph.specs.Holdings.{occurrences}
-use Rattle.cg_heap.specs.Calls.{IsListed, merged, place_merged, with_node, with_number, lowered}
-use Rattle.cg_trial.specs.View.{view_of, IsSame, Numbered, Moved, Merged, Lowered, bare_node, number_in}
+use Rattle.cg_arena.specs.Nodes.{IsPlace}
+use Rattle.cg_heap.specs.Calls.{IsListed, merged, place_merged, with_node, with_number}
+use Rattle.cg_trial.specs.View.{view_of, IsSame, Numbered, Moved, Merged, bare_node, number_in}
 use Rattle.cg_trial.proofs.Lists.{without-absent}
-use Rattle.cg_trial.proofs.PlacesOfObjects.{one_place, apart, is_there, where_is}
+use Rattle.cg_trial.proofs.PlacesOfObjects.{one_place, apart, is_there}
 
 -- a change of nodes that keeps everything but places and numbers
 module _ (store new : Store) (g : ℕ → Node → Node) (nodes : new.nodes ≡ mapped g store.nodes) (names : new.names ≡ store.names) (last : new.last ≡ store.last) (rows : new.rows ≡ store.rows)
@@ -179,37 +176,3 @@ number_told store o k live told = known (fin.get store.nodes o) live told
     known : (x : Option Node) → IsSome x → IfSome x (λ n. k ≡ n.number) → k ≡ number_in x
     known None h t = absurd (cc)
     known (Some n) h t = t
-
--- the number of a candidate, lowered by one
-pub lowered_view : (store new : Store) (o : ℕ) → IsListed store → new ≡ with_node lowered o store → (Includes (list_at store Cand) o
-    → 0 < number_in (fin.get store.nodes o)) → Lowered (o ∷ []) (view_of store) (view_of new)
-lowered_view store new o listed is room = subst (λ (s : Store). Lowered (o ∷ []) (view_of store) (view_of s)) (sym is) (record {
-  rest = record {
-    same = same_view store (with_node lowered o store) (λ s x. if s == o then lowered x else x) refl refl refl refl (bare_changed lowered o (λ n. refl));
-    places = refl;
-  };
-  lower = λ p there. elim (cases_eq p o) [
-    | inl same ↦
-        let here : Includes (list_at store Cand) o = subst (Includes (list_at store Cand)) same there in
-        let now : number_in (fin.get (changed lowered o store.nodes) p) ≡ number_in (fin.get store.nodes o) - 1 =
-        ap number_in (get-changed_same lowered o store.nodes p same) ∙ ap (λ q. number_in (option_map lowered (fin.get store.nodes q))) same
-        ∙ lower_here (fin.get store.nodes o) (where_is store listed Cand o here).1 in
-        let one : occurrences p (o ∷ []) ≡ 1 = ap (λ q. occurrences q (o ∷ [])) same ∙ occurrences_here o in
-        let was : number_in (fin.get store.nodes p) ≡ number_in (fin.get store.nodes o) = ap (λ q. number_in (fin.get store.nodes q)) same in
-        omega (arith, now, one, was, room here)
-    | inr differs ↦
-        let now : number_in (fin.get (changed lowered o store.nodes) p) ≡ number_in (fin.get store.nodes p) = ap number_in (get-changed_other lowered o store.nodes p differs) in
-        let none : occurrences p (o ∷ []) ≡ 0 = occurrences_apart p o differs in
-        omega (arith, now, none)
-  ];
-})
-  where
-    lower_here : (x : Option Node) → place_in x ≡ Cand → number_in (option_map lowered x) ≡ number_in x - 1
-    lower_here None at = absurd (cc)
-    lower_here (Some n) at = ap (λ p. number_lowered p n.number) at
-
-    occurrences_here : (q : ℕ) → occurrences q (q ∷ []) ≡ 1
-    occurrences_here q = ap (λ b. 0 + cond b 1 0) (eq-eqb q q refl)
-
-    occurrences_apart : (q r : ℕ) → q ≢ r → occurrences q (r ∷ []) ≡ 0
-    occurrences_apart q r differs = ap (λ b. 0 + cond b 1 0) (ne_eqb r q (λ e. differs (sym e)))

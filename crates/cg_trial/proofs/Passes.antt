@@ -1,16 +1,19 @@
 -- The passes over the candidates: copying the counts, and subtracting.
-use Rattle.std.proofs.Common.{◌≡◌, refl, sym, ◌∙◌, ap, subst, ℕ, ◌<◌, ◌≤◌, Bool, true, false, cond, ◌⊎◌, inl, inr, List, [], ◌∷◌, ◌++◌, length, Option, Some, None, IsTrue, arith, append_assoc}
+use Rattle.std.proofs.Common.{◌≡◌, refl, sym, ◌∙◌, ap, subst, ℕ, ◌+◌, ◌<◌, ◌≤◌, Bool, true, false, cond, ◌⊎◌, inl, inr, List, [], ◌∷◌, ◌++◌, length, Option, Some, None, IsTrue, arith, append_assoc, length-append}
 use Rattle.std.proofs.lemmas.List.{append-nil}
+use Rattle.std.proofs.lemmas.List.Sums.{sum_by_push, count_by-le-length}
 use Rattle.std.proofs.lemmas.Bool.{eqb-true, eq-eqb}
-use Rattle.std.specs.Prelude.{◌==◌}
+use Rattle.std.specs.Prelude.{◌==◌, sum_by}
 use Rattle.cg_value.specs.declared.Place.{Place}
-use Rattle.cg_value.specs.declared.Place.TheVariants.{Cand}
+use Rattle.cg_value.specs.declared.Place.TheVariants.{Cand, Back}
 use Rattle.cg_value.specs.declared.Entry.{Entry}
 use Rattle.cg_graph.specs.Member.{Includes}
 use Rattle.cg_graph.specs.Holdings.{occurrences}
 use Rattle.cg_trial.specs.View.{IsNext, head_of, View, IsSame, IsSameButNumbers, Numbered, IsReadyView}
+use Rattle.cg_trial.specs.Sift.{is_zero, zeros}
 use Rattle.cg_graph.specs.Value.{references}
 use Rattle.cg_graph.proofs.Members.{cases_of, Includes-append_right, Includes-append_cases}
+use Rattle.cg_trial.proofs.CountBounds.{sum_by-same}
 use Rattle.cg_trial.proofs.Lists.{occurs, occurs_in, IsAt, head_is, ahead, ahead_is}
 
 pub cand_same : {old new : View} → IsSameButNumbers old new → new.listed Cand ≡ old.listed Cand
@@ -48,16 +51,28 @@ pub turn_shorter : (xs : List ℕ) (o : ℕ) (cursor : Option ℕ) (front back r
 turn_shorter xs o cursor front back rest once at is then =
     rw (ahead_is xs (Some o) front back once at, ahead_is xs cursor (front ++ o ∷ []) rest once then, is) (omega arith)
 
--- Copying has reached the cursor: the numbers before it are the counts.
-pub record Copying (old now : View) (cursor : Option ℕ) : Type 0 where
+-- 1 for true, and 1 for 0
+abbrev pub bit : Bool → ℕ
+bit b = cond b 1 0
+
+abbrev pub zero_or : ℕ → ℕ
+zero_or n = bit (n == 0)
+
+-- 1 for an object that nothing holds, else 0
+abbrev pub is_unheld : View → ℕ → ℕ
+is_unheld v o = cond (v.degree o == 0) 1 0
+
+-- Copying has reached the cursor: the numbers before it are the counts, and so many are 0.
+pub record Copying (old now : View) (cursor : Option ℕ) (count : ℕ) : Type 0 where
   pub front : List ℕ
   pub back : List ℕ
   pub at : IsAt (old.listed Cand) cursor front back
   pub rest : IsSameButNumbers old now
   pub copied : (p : ℕ) → Includes front p → now.number p ≡ old.degree p
+  pub counted : count ≡ sum_by (is_unheld old) front
 
-pub copying_first : (v : View) (cursor : Option ℕ) → cursor ≡ head_of (v.listed Cand) → Copying v v cursor
-copying_first v cursor is = record { front = []; back = v.listed Cand; at = record { parts = refl; at = is }; rest = but_numbers_itself v; copied = λ p h. absurd h }
+pub copying_first : (v : View) (cursor : Option ℕ) → cursor ≡ head_of (v.listed Cand) → Copying v v cursor 0
+copying_first v cursor is = record { front = []; back = v.listed Cand; at = record { parts = refl; at = is }; rest = but_numbers_itself v; copied = λ p h. absurd h; counted = refl }
 
 -- the number of the object itself, and of another
 pub numbered_here : {object n : ℕ} {old new : View} → Numbered object n old new → new.number object ≡ n
@@ -66,8 +81,9 @@ numbered_here {object} {n} {old} d = d.numbers object ∙ ap (λ b. cond b n (ol
 pub numbered_there : {object n : ℕ} {old new : View} → Numbered object n old new → (p : ℕ) → p == object ≡ false → new.number p ≡ old.number p
 numbered_there {object} {n} {old} d p e = d.numbers p ∙ ap (λ b. cond b n (old.number p)) e
 
-pub copying_more : (old mid new : View) (o n : ℕ) (cursor : Option ℕ) → Copying old mid (Some o) → n ≡ mid.degree o → Numbered o n mid new → IsNext new o cursor → Copying old new cursor
-copying_more old mid new o n cursor so is numbered next =
+pub copying_more : (old mid new : View) (o n count then : ℕ) (cursor : Option ℕ) → Copying old mid (Some o) count → n ≡ mid.degree o → Numbered o n mid new → IsNext new o cursor
+    → then ≡ count + cond (n == 0) 1 0 → Copying old new cursor then
+copying_more old mid new o n count then cursor so is numbered next counts =
     let rest = but_numbers_more so.rest numbered.rest in
     let turn = turn_of new (old.listed Cand) o cursor so.front so.back (cand_same rest) so.at next in
     record {
@@ -76,6 +92,7 @@ copying_more old mid new o n cursor so is numbered next =
       at = turn.3;
       rest = rest;
       copied = λ p h. go p (cases_of (p == o)) (Includes-append_cases so.front (o ∷ []) p h);
+      counted = omega (arith, counts, so.counted, sum_by_push (is_unheld old) so.front o, ap zero_or (is ∙ ap (λ (d : ℕ → ℕ). d o) so.rest.same.degrees));
     }
   where
     at_object : (p : ℕ) → p ≡ o → new.number p ≡ old.degree p
@@ -112,14 +129,24 @@ stands_at old mid o front back at rest = subst (λ (xs : List ℕ). Includes xs 
 pub alive_at : (old mid : View) (o : ℕ) (front back : List ℕ) → IsReadyView old → IsAt (old.listed Cand) (Some o) front back → IsSame old mid → IsTrue (mid.live o)
 alive_at old mid o front back ready at same = subst (λ (l : ℕ → Bool). IsTrue (l o)) (sym same.lives) (ready.alive o (stands _ o front back at))
 
-pub copied_all : (old now : View) → Copying old now None → (o : ℕ) → Includes (old.listed Cand) o → now.number o ≡ old.degree o
-copied_all old now so o h = so.copied o (subst (λ (xs : List ℕ). Includes xs o) (at_end _ _ _ so.at) h)
+pub copied_all : (old now : View) (count : ℕ) → Copying old now None count → (o : ℕ) → Includes (old.listed Cand) o → now.number o ≡ old.degree o
+copied_all old now count so o h = so.copied o (subst (λ (xs : List ℕ). Includes xs o) (at_end _ _ _ so.at) h)
 
-pub copying_at : (old mid : View) (cursor : Option ℕ) (o : ℕ) → Copying old mid cursor → cursor ≡ Some o → Copying old mid (Some o)
-copying_at old mid cursor o so is = subst (λ (k : Option ℕ). Copying old mid k) is so
+pub copying_at : (old mid : View) (cursor : Option ℕ) (k : Option ℕ) (count : ℕ) → Copying old mid cursor count → cursor ≡ k → Copying old mid k count
+copying_at old mid cursor k count so is = subst (λ (k : Option ℕ). Copying old mid k count) is so
 
-pub copied_at : (old mid : View) (cursor : Option ℕ) → Copying old mid cursor → cursor ≡ None → Copying old mid None
-copied_at old mid cursor so is = subst (λ (k : Option ℕ). Copying old mid k) is so
+-- one more is at most the number of candidates
+pub copying_few : (old mid : View) (o count : ℕ) → Copying old mid (Some o) count → count + 1 ≤ length (old.listed Cand)
+copying_few old mid o count so =
+    let head = head_is so.back o so.at.at in
+    omega (arith, so.counted, count_by-le-length (λ q. old.degree q == 0) so.front, ap length so.at.parts, length-append so.front so.back, ap length head.1)
+
+-- so many candidates have the number 0
+pub copied_zeros : (old now : View) (count : ℕ) → Copying old now None count → old.listed Back ≡ [] → count ≡ zeros now
+copied_zeros old now count so empty =
+    let all = at_end _ _ _ so.at in
+    let same = sum_by-same (is_zero now) (is_unheld old) so.front (λ q h. ap zero_or (so.copied q h)) in
+    omega (arith, so.counted, same, ap (sum_by (is_zero now)) (cand_same so.rest ∙ all), ap (λ (l : Place → List ℕ). sum_by (is_zero now) (l Back)) so.rest.places, ap (sum_by (is_zero now)) empty)
 
 pub ready_kept : (old mid : View) → IsReadyView old → IsSame old mid → ((o : ℕ) → occurrences o (mid.listed Cand) ≡ occurrences o (old.listed Cand)) → IsReadyView mid
 ready_kept old mid ready same sums = record {

@@ -1,22 +1,23 @@
 -- Taking back: a target with number 0 gets one and, if it was set aside, moves to the end of the list.
 use Rattle.std.proofs.Common.{◌≡◌, ◌≢◌, refl, sym, ◌∙◌, ap, subst, replicate, ℕ, ◌+◌, ◌*◌, ◌≤◌, true, false, cond, ◌⊎◌, inl, inr, List, [], ◌∷◌, ◌++◌, length, take, drop, get_or, arith, append_assoc, length-append, ◌<◌}
-use Rattle.std.proofs.lemmas.Bool.{eqb-true, eq-eqb}
+use Rattle.std.proofs.lemmas.Bool.{eqb-true, eq-eqb, ne_eqb}
 use Rattle.std.proofs.Math.Seq.{take-length, take-add}
 use Rattle.std.proofs.lemmas.List.{append-nil, take-append-drop, take_more, get_or-drop}
 use Rattle.std.proofs.lemmas.List.Sums.{sum_by_push, sum_by-cons, count_by-le-length}
-use Rattle.std.specs.Prelude.{◌==◌, sum_by}
+use Rattle.std.specs.Prelude.{◌==◌, ◌^◌, sum_by}
 use Rattle.cg_value.specs.declared.Place.{Place}
 use Rattle.cg_value.specs.declared.Place.TheVariants.{Cand, Back}
 use Rattle.cg_value.specs.declared.Entry.{Entry}
 use Rattle.cg_graph.specs.Member.{Includes}
 use Rattle.cg_graph.specs.Holdings.{occurrences}
 use Rattle.cg_graph.specs.Places.{without_serial}
-use Rattle.cg_trial.specs.View.{View, Numbered, Moved}
+use Rattle.cg_trial.specs.View.{View, Numbered, Moved, IsSameButNumbers}
 use Rattle.cg_graph.specs.Value.{references}
-use Rattle.cg_trial.specs.Sift.{Woken, IsFirstZero, IsMember, both, is_zero, zeros}
+use Rattle.cg_trial.specs.Sift.{Woken, HasFewMembers, IsFirstZero, IsMember, both, is_zero, zeros}
 use Rattle.cg_graph.proofs.Members.{either, cases_of, Includes-append_cases, Includes-append_left, Includes-append_right}
 use Rattle.cg_trial.proofs.Lists.{occurs, occurs_in, always_that, none_or_some, sum_by-without, sum_by-parts, without-absent, Includes-without}
-use Rattle.cg_trial.proofs.Passes.{same_itself, same_more}
+use Rattle.cg_trial.proofs.CountBounds.{sum_by-same}
+use Rattle.cg_trial.proofs.Passes.{same_itself, same_more, numbered_here, numbered_there, bit, zero_or}
 use Rattle.cg_kind.specs.Calls.{next_entries}
 use Rattle.cg_kind.proofs.References.{next_within, references_next, references-append}
 use Rattle.cg_trial.proofs.Entries.{next_same}
@@ -235,6 +236,38 @@ module _ (p : ℕ) (a m c : View) (zero_was : a.number p ≡ 0) (once : occurren
 
 pub there_fewer : (p : ℕ) (a c : View) → a.number p ≡ 0 → Includes (a.listed Cand) p → Numbered p 1 a c → zeros c + 1 ≤ zeros a
 there_fewer p a c zero_was here numbered = one_fewer p a c zero_was numbered.numbers (inl here) (sums_there p a c numbered)
+
+-- A candidate's number changes from above 0.
+pub zeros_changed : (p n : ℕ) (a c : View) → Numbered p n a c → occurrences p (a.listed Cand) ≡ 1 → occurrences p (a.listed Back) ≡ 0 → a.number p ≢ 0
+    → zeros c ≡ zeros a + cond (n == 0) 1 0
+zeros_changed p n a c numbered here none above =
+    omega (
+      arith,
+      parts (a.listed Cand) 1 here,
+      parts (a.listed Back) 0 none,
+      places Cand,
+      places Back,
+      ap zero_or (numbered_here numbered),
+      ap bit (ne_eqb (a.number p) 0 above),
+    )
+  where
+    places : (q : Place) → sum_by (is_zero c) (c.listed q) ≡ sum_by (is_zero c) (a.listed q)
+    places q = ap (λ (l : Place → List ℕ). sum_by (is_zero c) (l q)) numbered.rest.places
+
+    parts : (xs : List ℕ) (times : ℕ) → occurrences p xs ≡ times → sum_by (is_zero c) xs + times * is_zero a p ≡ sum_by (is_zero a) xs + times * is_zero c p
+    parts xs times often =
+        let rest = sum_by-same (is_zero c) (is_zero a) (without_serial p xs)
+        (λ q h. ap zero_or (numbered_there numbered q (ne_eqb q p (Includes-without p xs q h).1))) in
+        let was = ap (λ k. k * is_zero a p) often in
+        let now = ap (λ k. k * is_zero c p) often in
+        omega (arith, rest, was, now, sum_by-without (is_zero a) p xs, sum_by-without (is_zero c) p xs)
+
+-- Few members stay few, and so their zeros fit a word.
+pub few_same : (a b : View) → IsSameButNumbers a b → HasFewMembers a → HasFewMembers b
+few_same a b same few = subst (λ (l : Place → List ℕ). length (l Cand) + length (l Back) < 2 ^ 64) (sym same.places) few
+
+pub zeros_few : (a b : View) → IsSameButNumbers a b → HasFewMembers a → zeros b < 2 ^ 64
+zeros_few a b same few = omega (arith, few_same a b same few, few_zeros b (b.listed Cand), few_zeros b (b.listed Back))
 
 -- Taking back has reached entry `from`.
 pub record Waking (o : ℕ) (old now : View) (from : ℕ) : Type 0 where

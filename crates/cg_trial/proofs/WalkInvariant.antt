@@ -16,9 +16,9 @@ use Rattle.cg_trial.specs.Paths.{entries_in}
 use Rattle.cg_trial.specs.Sift.{Woken, IsMember, both, is_zero, zeros, AreOthersSame, Walk, starts, goes, IsParted}
 use Rattle.cg_graph.proofs.Members.{either, Includes-append_cases}
 use Rattle.cg_trial.proofs.Lists.{occurs, occurs_in, none_or_some, without-absent, without-append, without-cons_yes, once_before, IsAt, head_is, ahead, ahead_is}
-use Rattle.cg_trial.proofs.Passes.{same_itself, same_more, turn_of, turn_shorter, stands, at_end}
+use Rattle.cg_trial.proofs.Passes.{same_itself, same_more, turn_of, stands, at_end}
 use Rattle.cg_trial.proofs.Entries.{refs_same, length_same, live_same}
-use Rattle.cg_trial.proofs.TakingBack.{member_of, member_within, all_awake, few_zeros}
+use Rattle.cg_trial.proofs.TakingBack.{member_of, member_within, all_awake}
 
 pub in_lists : (xs ys zs : List ℕ) (q : ℕ) → occurrences q xs + occurrences q ys ≡ occurrences q zs → Includes zs q → Includes ys q ⊎ Includes xs q
 in_lists xs ys zs q sum h = either (none_or_some (occurrences q ys)) (λ e. inr (occurs_in xs q (let k = occurs zs q h in omega arith))) (λ e. inl (occurs_in ys q e))
@@ -288,46 +288,3 @@ pub looks_within : (old now : View) (cursor : Option ℕ) (before steps : ℕ) �
 looks_within old now cursor before steps so =
     let f : ℕ → ℕ = λ q. length (old.entries q) in
     omega (arith, so.looks, so.sums f, ap (sum_by f) so.at.parts, sum_by-append f so.front so.back)
-
--- This many of the candidates before the cursor have number 0.
-pub record Counting (v : View) (cursor : Option ℕ) (count : ℕ) : Type 0 where
-  pub front : List ℕ
-  pub back : List ℕ
-  pub at : IsAt (v.listed Cand) cursor front back
-  pub counted : count ≡ sum_by (is_zero v) front
-
-pub counting_first : (v : View) (cursor : Option ℕ) → cursor ≡ head_of (v.listed Cand) → Counting v cursor 0
-counting_first v cursor is = record { front = []; back = v.listed Cand; at = record { parts = refl; at = is }; counted = refl }
-
-pub counting_at : (v : View) (cursor : Option ℕ) (o count : ℕ) → Counting v cursor count → cursor ≡ Some o → Counting v (Some o) count
-counting_at v cursor o count so is = subst (λ (k : Option ℕ). Counting v k count) is so
-
-pub counting_live : (v : View) (o count : ℕ) → IsReadyView v → Counting v (Some o) count → IsTrue (v.live o)
-counting_live v o count ready so = ready.alive o (stands (v.listed Cand) o so.front so.back so.at)
-
--- the count is at most the number of candidates
-pub counting_few : (v : View) (o count : ℕ) → Counting v (Some o) count → count + 1 ≤ length (v.listed Cand)
-counting_few v o count so =
-    let head = head_is so.back o so.at.at in
-    omega (arith, so.counted, few_zeros v so.front, ap length so.at.parts, length-append so.front so.back, ap length head.1)
-
-pub counting_more : (v : View) (o count then : ℕ) (cursor : Option ℕ) → Counting v (Some o) count → then ≡ count + is_zero v o → IsNext v o cursor → Counting v cursor then
-counting_more v o count then cursor so is next =
-    let turn = turn_of v (v.listed Cand) o cursor so.front so.back refl so.at next in
-    record {
-      front = so.front ++ o ∷ [];
-      back = turn.0;
-      at = turn.3;
-      counted = omega (arith, is, so.counted, sum_by_push (is_zero v) so.front o);
-    }
-
-pub counting_shorter : (v : View) (o count : ℕ) (was cursor : Option ℕ) → IsReadyView v → Counting v (Some o) count → was ≡ Some o → IsNext v o cursor
-    → length (ahead cursor (v.listed Cand)) < length (ahead was (v.listed Cand))
-counting_shorter v o count was cursor ready so is next =
-    let turn = turn_of v (v.listed Cand) o cursor so.front so.back refl so.at next in
-    rw is (turn_shorter (v.listed Cand) o cursor so.front so.back turn.0 ready.once so.at turn.1 turn.3)
-
-pub counting_end : (v : View) (cursor : Option ℕ) (count : ℕ) → Counting v cursor count → cursor ≡ None → v.listed Back ≡ [] → count ≡ zeros v
-counting_end v cursor count so is empty =
-    let all = at_end (v.listed Cand) so.front so.back (subst (λ (k : Option ℕ). IsAt (v.listed Cand) k so.front so.back) is so.at) in
-    omega (arith, so.counted, ap (sum_by (is_zero v)) all, ap (sum_by (is_zero v)) empty)

@@ -1,6 +1,6 @@
 -- What the walk over the candidates changes: those that look unreachable are set aside, and taken back where a reference to
 -- them is found. (Developer guide, "Identifying reference cycles".)
-use Rattle.std.specs.Prelude.{◌≡◌, ◌≢◌, ℕ, ◌+◌, ◌≤◌, ◌⊎◌, List, ◌++◌, ◌==◌, ◌<◌, cond, length, take, drop, slice_index, sum_by, IsTrue}
+use Rattle.std.specs.Prelude.{◌≡◌, ◌≢◌, ℕ, ◌+◌, ◌≤◌, ◌⊎◌, List, ◌++◌, ◌==◌, ◌<◌, ◌^◌, cond, length, take, drop, slice_index, sum_by, IsTrue}
 use Rattle.cg_value.specs.declared.Place.{Place}
 use Rattle.cg_value.specs.declared.Place.TheVariants.{Cand, Back}
 use Rattle.cg_graph.specs.Member.{Includes}
@@ -24,6 +24,10 @@ is_zero v o = cond (v.number o == 0) 1 0
 -- how many have number 0
 abbrev pub zeros : View → ℕ
 zeros v = both (is_zero v) v
+
+-- they are fewer than 2^64
+abbrev pub HasFewMembers : View → Type 0
+HasFewMembers v = length (v.listed Cand) + length (v.listed Back) < 2 ^ 64
 
 -- only those two lists change
 abbrev pub AreOthersSame : View → View → Type 0

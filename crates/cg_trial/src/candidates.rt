@@ -1,10 +1,11 @@
 //! The calls that the search makes on the heap, in terms of what it sees.
-ghost use Rattle.std.specs.Prelude.{◌≡◌, ◌≢◌, ◌↔◌, ◌<◌, ◌≤◌, ◌∷◌, [], replicate, IsTrue};
+ghost use Rattle.std.specs.Prelude.{◌≡◌, ◌≢◌, ◌↔◌, ◌<◌, ◌≤◌, ◌+◌, replicate, IsTrue};
 ghost use Rattle.cg_graph.specs.Member.{Includes};
 ghost use Rattle.cg_graph.specs.Holdings.{occurrences};
 ghost use Rattle.cg_graph.specs.Store.{place_of};
 ghost use Rattle.cg_arena.specs.Nodes.{IsPlace};
 ghost use Rattle.cg_trial.specs.View.{view_of, Numbered, Moved, Merged, Lowered, IsNext};
+ghost use Rattle.cg_trial.specs.Sift.{zeros};
 
 use cg_arena::Near;
 use cg_heap::Heap;
@@ -73,29 +74,25 @@ pub fn number_by_degree<B: Kind>(heap: &mut Heap<B>, object: u64, near: Near)
     heap.set_gc_to_refs(object, near);
 }
 
-/// Lowers the number of the object by one, if it is a candidate.
+/// Lowers the number of the object by `times`, if it is a candidate. Returns 1 if the number is 0
+/// now, else 0: so many more have that number.
 #[inline(always)]
-pub fn lower_number<B: Kind>(heap: &mut Heap<B>, object: u64)
+pub fn lower_number<B: Kind>(heap: &mut Heap<B>, object: u64, times: usize) -> u64
     requires live { IsTrue ((view_of heap.old).live object) }
-    requires room { Includes ((view_of heap.old).listed Place.Cand) object
-        → 0 < (view_of heap.old).number object }
-    ensures { Lowered (object ∷ []) (view_of heap.old) (view_of heap.new) }
-{
-    heap.sound();
-    heap.lower(object);
-}
-
-/// Lowers the number of the object by `times`, if it is a candidate.
-#[inline(never)]
-pub fn lower_number_by<B: Kind>(heap: &mut Heap<B>, object: u64, times: usize)
-    requires live { IsTrue ((view_of heap.old).live object) }
+    requires some { 0 < times }
     requires room { Includes ((view_of heap.old).listed Place.Cand) object
         → times ≤ (view_of heap.old).number object }
-    ensures { Lowered (replicate times object) (view_of heap.old) (view_of heap.new) }
+    ensures lowered { Lowered (replicate times object) (view_of heap.old) (view_of heap.new) }
+    ensures unheld { zeros (view_of heap.new) ≡ zeros (view_of heap.old) + result }
 {
+    heap.sound();
     let head = heap.head_of(object);
     if is_candidate(heap, object, head.place) {
-        set_number(heap, object, (head.number as usize - times) as u32);
+        let number = (head.number as usize - times) as u32;
+        set_number(heap, object, number);
+        u64::from(number == 0)
+    } else {
+        0
     }
 }
 

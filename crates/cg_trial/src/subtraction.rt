@@ -9,12 +9,12 @@ ghost use Rattle.cg_arena.specs.Nodes.{IsPlace};
 ghost use Rattle.cg_heap.specs.Calls.{IsListed};
 ghost use Rattle.cg_trial.specs.View.{view_of, IsReadyView, IsSameButNumbers, Lowered, held_by};
 ghost use Rattle.cg_trial.specs.Paths.{entries_in};
-ghost use Rattle.cg_trial.specs.Sift.{Woken, IsFirstZero, IsLastZero, IsNowhereElse, IsParted, IsTwofold, IsExchanged, IsSifted, IsSieved, zeros};
+ghost use Rattle.cg_trial.specs.Sift.{Woken, IsFirstZero, IsLastZero, HasFewMembers, IsNowhereElse, IsParted, IsTwofold, IsExchanged, IsSifted, IsSieved, zeros};
 ghost use Rattle.cg_trial.specs.Split.{IsSplitPlace, kept_place, entry_number_at, IsSameButPlaces};
 
 use crate::candidates::{
-    following, is_candidate, is_set_aside, lower_number, lower_number_by, move_all, move_last,
-    number_by_degree, set_number,
+    following, is_candidate, is_set_aside, lower_number, move_all, move_last, number_by_degree,
+    set_number,
 };
 use cg_arena::Near;
 use cg_heap::{Heap, Steps};
@@ -22,19 +22,28 @@ use cg_kind::{AT_ONCE, Kind, ROOM};
 use cg_value::{KindCode, Place};
 use std::sync::ledger::Ledger;
 
-/// Sets each candidate's number to its count.
-fn copy<B: Kind>(heap: &mut Heap<B>)
+/// Sets each candidate's number to its count. Returns how many then have the number 0.
+fn copy<B: Kind>(heap: &mut Heap<B>) -> u64
     requires ready { IsReadyView (view_of heap.old) }
+    requires none { (view_of heap.old).listed Place.Back ≡ [] }
     ensures same { IsSameButNumbers (view_of heap.old) (view_of heap.new) }
     ensures copied { (o : ℕ) → Includes ((view_of heap.old).listed Place.Cand) o
         → (view_of heap.new).number o ≡ (view_of heap.old).degree o }
+    ensures unheld { result ≡ zeros (view_of heap.new) }
 {
+    // Bounds the count, so that it fits in 64 bits.
+    let _all = heap.size(Place::Cand);
+    let mut unheld = 0;
     let mut near = Near::default();
     let mut cursor = heap.first_near(Place::Cand, &mut near);
     'objects: while let Some(object) = cursor {
         number_by_degree(heap, object, near);
+        if heap.head_near(object, near).number == 0 {
+            unheld += 1;
+        }
         cursor = following(heap, object, &mut near);
     }
+    unheld
 }
 
 /// The end of the run of objects equal to the one at `from`, as in a list that holds one object
@@ -56,38 +65,43 @@ fn end_of_run(objects: &[u64], from: usize) -> usize
 }
 
 /// Lowers the number of each candidate among these objects by its number of occurrences. A run of
-/// one object is looked up once; the object at `next` shows whether there is a run.
+/// one object is looked up once; the object at `next` shows whether there is a run. `unheld`
+/// counts those that have the number 0.
 #[inline(always)]
-fn lower_each<B: Kind>(heap: &mut Heap<B>, objects: &[u64])
+fn lower_each<B: Kind>(heap: &mut Heap<B>, objects: &[u64], unheld: &mut u64)
     requires live { (o : ℕ) → Includes objects.now o → IsTrue ((view_of heap.old).live o) }
     requires room { (o : ℕ) → Includes ((view_of heap.old).listed Place.Cand) o
         → occurrences o objects.now ≤ (view_of heap.old).number o }
-    ensures { Lowered objects.now (view_of heap.old) (view_of heap.new) }
+    requires few { HasFewMembers (view_of heap.old) }
+    requires unheld { unheld.old ≡ zeros (view_of heap.old) }
+    ensures lowered { Lowered objects.now (view_of heap.old) (view_of heap.new) }
+    ensures unheld { unheld.new ≡ zeros (view_of heap.new) }
 {
     let mut next = 1;
     'runs: while next < objects.len() {
         let object = objects[next - 1];
         if object == objects[next] {
             let end = end_of_run(objects, next - 1);
-            lower_number_by(heap, object, end + 1 - next);
+            *unheld += lower_number(heap, object, end + 1 - next);
             next = end + 1;
         } else {
-            lower_number(heap, object);
+            *unheld += lower_number(heap, object, 1);
             next += 1;
         }
     }
     if next <= objects.len() {
-        lower_number(heap, objects[next - 1]);
+        *unheld += lower_number(heap, objects[next - 1], 1);
     }
 }
 
 /// Lowers the numbers of candidates by one for each reference of an object's entries; takes a hint
-/// of its slot. `found` is a buffer for the references.
+/// of its slot. `found` is a buffer for the references; `unheld` counts as in `lower_each`.
 fn lower_all<B: Kind, L: Ledger>(
     heap: &mut Heap<B>,
     object: u64,
     near: Near,
     found: &mut [u64],
+    unheld: &mut u64,
     steps: &mut Steps<L>,
 )
     requires ready { IsReadyView (view_of heap.old) }
@@ -96,15 +110,18 @@ fn lower_all<B: Kind, L: Ledger>(
         → occurrences o (references ((view_of heap.old).entries object)) ≤ (view_of heap.old).number
         o }
     requires space { ROOM ≤ length found.old }
+    requires few { HasFewMembers (view_of heap.old) }
+    requires unheld { unheld.old ≡ zeros (view_of heap.old) }
     ensures lowered { Lowered (references ((view_of heap.old).entries object)) (view_of heap.old)
         (view_of heap.new) }
+    ensures unheld { unheld.new ≡ zeros (view_of heap.new) }
     ensures looks { steps.new ≡ steps.old + length ((view_of heap.old).entries object) }
     ensures space { length found.new ≡ length found.old }
 {
     let mut from = 0;
     'entries: loop {
         let noted = heap.note_near(object, from, near, found, steps);
-        lower_each(heap, &found[..noted.references]);
+        lower_each(heap, &found[..noted.references], unheld);
         if noted.next - from < AT_ONCE {
             return;
         }
@@ -112,24 +129,32 @@ fn lower_all<B: Kind, L: Ledger>(
     }
 }
 
-/// Lowers the numbers of candidates by one for each reference of the candidates' entries.
-fn subtract<B: Kind, L: Ledger>(heap: &mut Heap<B>, steps: &mut Steps<L>)
+/// Lowers the numbers of candidates by one for each reference of the candidates' entries. `unheld`
+/// of them have the number 0 before; returns how many have it then.
+fn subtract<B: Kind, L: Ledger>(heap: &mut Heap<B>, unheld: u64, steps: &mut Steps<L>) -> u64
     requires ready { IsReadyView (view_of heap.old) }
+    requires none { (view_of heap.old).listed Place.Back ≡ [] }
     requires room { (o : ℕ) → Includes ((view_of heap.old).listed Place.Cand) o
         → occurrences o (held_by (view_of heap.old) ((view_of heap.old).listed Place.Cand)) ≤
         (view_of heap.old).number o }
+    requires unheld { unheld ≡ zeros (view_of heap.old) }
     ensures lowered { Lowered (held_by (view_of heap.old) ((view_of heap.old).listed Place.Cand))
         (view_of heap.old) (view_of heap.new) }
+    ensures unheld { result ≡ zeros (view_of heap.new) }
     ensures looks { steps.new ≡ steps.old + entries_in (view_of heap.old) ((view_of heap.old).listed
         Place.Cand) }
 {
+    // Bounds the count, so that it fits in 64 bits.
+    let _all = heap.size(Place::Cand);
+    let mut unheld = unheld;
     let mut found = [0; ROOM];
     let mut near = Near::default();
     let mut cursor = heap.first_near(Place::Cand, &mut near);
     'objects: while let Some(object) = cursor {
-        lower_all(heap, object, near, &mut found, steps);
+        lower_all(heap, object, near, &mut found, &mut unheld, steps);
         cursor = following(heap, object, &mut near);
     }
+    unheld
 }
 
 /// The first of these objects with number 0: its position and its place. It writes nothing, so the
@@ -345,26 +370,6 @@ fn take_back_from_first<B: Kind, L: Ledger>(
     }
 }
 
-/// The number of candidates with number 0, while none is set aside.
-fn count_zeros<B: Kind>(heap: &Heap<B>) -> u64
-    requires ready { IsReadyView (view_of heap.now) }
-    requires none { (view_of heap.now).listed Place.Back ≡ [] }
-    ensures { result ≡ zeros (view_of heap.now) }
-{
-    // Bounds the count, so that it fits in 64 bits.
-    let _all = heap.size(Place::Cand);
-    let mut zeros = 0;
-    let mut near = Near::default();
-    let mut cursor = heap.first_near(Place::Cand, &mut near);
-    'objects: while let Some(object) = cursor {
-        if heap.head_near(object, near).number == 0 {
-            zeros += 1;
-        }
-        cursor = following(heap, object, &mut near);
-    }
-    zeros
-}
-
 /// The candidates with a number and what they lead to stay; the others are set aside. At most
 /// `left` have number 0: at 0 all have been reached, and no more references are looked at.
 fn set_aside<B: Kind, L: Ledger>(heap: &mut Heap<B>, left: u64, steps: &mut Steps<L>)
@@ -412,22 +417,23 @@ fn exchange<B: Kind>(heap: &mut Heap<B>)
     }
 }
 
-/// Moves the candidates with a number, and what they lead to, to the kept place.
-fn take_out<B: Kind, L: Ledger>(heap: &mut Heap<B>, kept: Place, steps: &mut Steps<L>)
+/// Moves the candidates with a number, and what they lead to, to the kept place. `unheld` have the
+/// number 0.
+fn take_out<B: Kind, L: Ledger>(heap: &mut Heap<B>, kept: Place, unheld: u64, steps: &mut Steps<L>)
     requires ready { IsReadyView (view_of heap.old) }
     requires place { IsPlace kept }
     requires apart { kept ≢ Place.Cand }
     requires alone { IsNowhereElse (view_of heap.old) }
     requires empty { (view_of heap.old).listed kept ≡ [] }
     requires none { (view_of heap.old).listed Place.Back ≡ [] }
+    requires unheld { unheld ≡ zeros (view_of heap.old) }
     ensures sifted { IsSifted kept (view_of heap.old) (view_of heap.new) }
     ensures later { steps.old ≤ steps.new }
     ensures looks { steps.new ≤ steps.old + entries_in (view_of heap.old) ((view_of heap.old).listed
         Place.Cand) }
 {
-    let zeros = count_zeros(heap);
-    if zeros < heap.size(Place::Cand) {
-        set_aside(heap, zeros, steps);
+    if unheld < heap.size(Place::Cand) {
+        set_aside(heap, unheld, steps);
         match kept {
             Place::Back => exchange(heap),
             _ => {
@@ -452,9 +458,9 @@ fn sift<B: Kind, L: Ledger>(heap: &mut Heap<B>, kept: Place, steps: &mut Steps<L
         (list_at heap.old Place.Cand) }
 {
     heap.sound();
-    copy(heap);
-    subtract(heap, steps);
-    take_out(heap, kept, steps);
+    let unheld = copy(heap);
+    let unheld = subtract(heap, unheld, steps);
+    take_out(heap, kept, unheld, steps);
     heap.sound();
 }
 

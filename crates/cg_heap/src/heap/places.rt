@@ -4,7 +4,7 @@ ghost use Rattle.cg_graph.specs.Places.{place_number};
 ghost use Rattle.cg_graph.specs.Store.{IsLive, place_of as place_at};
 ghost use Rattle.cg_graph.specs.Changes.{moved};
 ghost use Rattle.cg_arena.specs.Nodes.{IsPlace, TakesNumber};
-ghost use Rattle.cg_heap.specs.Calls.{merged, marked, with_number, lowered, with_node};
+ghost use Rattle.cg_heap.specs.Calls.{merged, marked, with_number, with_node};
 
 use super::Heap;
 use cg_kind::Kind;
@@ -48,15 +48,5 @@ impl<B: Kind> Heap<B> {
         ensures { self.new ≡ with_node (with_number number) object self.old }
     {
         self.arena.set_gc(object, number);
-    }
-
-    /// Lowers the collector's number of a candidate by 1, if it is above 0; any other object is
-    /// unchanged.
-    #[inline(always)]
-    pub fn lower(&mut self, object: u64)
-        requires { IsLive self.old object }
-        ensures { self.new ≡ with_node lowered object self.old }
-    {
-        self.arena.lower(object);
     }
 }

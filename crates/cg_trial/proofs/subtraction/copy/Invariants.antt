@@ -6,7 +6,7 @@ use Rattle.cg_trial.proofs.Passes.{Copying}
 use Rattle.cg_trial.proofs.subtraction.copy.Given as goal
 
 abbrev pub invariant-objects : goal.invariant-objects
-invariant-objects g l = Copying (view_of l.fn.heap) (view_of l.heap) l.cursor
+invariant-objects g l = Copying (view_of l.fn.heap) (view_of l.heap) l.cursor l.unheld
 
 abbrev pub decreases-objects : goal.decreases-objects
 decreases-objects g l = length (ahead l.cursor ((view_of l.heap).listed Cand))

@@ -3,6 +3,7 @@ use Rattle.cg_graph.specs.Member.{Includes}
 use Rattle.cg_graph.specs.Holdings.{occurrences}
 use Rattle.cg_trial.specs.View.{view_of, Lowered}
 use Rattle.cg_trial.proofs.Entries.{live_same, length_same, next_live, few_last, lowering_room, lowering_more, lowering_all}
+use Rattle.cg_trial.proofs.TakingBack.{few_same}
 use Rattle.cg_trial.proofs.subtraction.lower_all.Goals as goal
 
 pub note_near-noted-requires-clause-live : goal.note_near-noted-requires-clause-live
@@ -37,7 +38,7 @@ returns-then-noted-from-lt-AT_ONCE-clause-lowered g c =
     )))
     (lowering_more c.args.object (view_of c.args.heap.now) (view_of c.entries.heap) (view_of c.lower_each.new.heap) c.entries.from c.note_near-noted.result.next
     c.entries.invariant.lowering c.note_near-noted.ensures.next
-    (subst (λ (xs : List ℕ). Lowered xs (view_of c.entries.heap) (view_of c.lower_each.new.heap)) c.note_near-noted.ensures.references c.lower_each.ensures))
+    (subst (λ (xs : List ℕ). Lowered xs (view_of c.entries.heap) (view_of c.lower_each.new.heap)) c.note_near-noted.ensures.references c.lower_each.ensures.lowered))
 
 pub returns-then-noted-from-lt-AT_ONCE-clause-looks : goal.returns-then-noted-from-lt-AT_ONCE-clause-looks
 returns-then-noted-from-lt-AT_ONCE-clause-looks g c =
@@ -58,14 +59,18 @@ pub entries-smaller : goal.entries-smaller
 entries-smaller g c =
     let so = lowering_more c.args.object (view_of c.args.heap.now) (view_of c.entries.heap) (view_of c.lower_each.new.heap) c.entries.from
     c.note_near-noted.result.next c.entries.invariant.lowering c.note_near-noted.ensures.next
-    (subst (λ (xs : List ℕ). Lowered xs (view_of c.entries.heap) (view_of c.lower_each.new.heap)) c.note_near-noted.ensures.references c.lower_each.ensures) in
+    (subst (λ (xs : List ℕ). Lowered xs (view_of c.entries.heap) (view_of c.lower_each.new.heap)) c.note_near-noted.ensures.references c.lower_each.ensures.lowered) in
     omega (arith, so.within, c.if-noted-from-lt-AT_ONCE.false, c.note_near-noted.ensures.next)
 
 pub entries-preserved : goal.entries-preserved
 entries-preserved g c = record {
   lowering = lowering_more c.args.object (view_of c.args.heap.now) (view_of c.entries.heap) (view_of c.lower_each.new.heap) c.entries.from
       c.note_near-noted.result.next c.entries.invariant.lowering c.note_near-noted.ensures.next
-      (subst (λ (xs : List ℕ). Lowered xs (view_of c.entries.heap) (view_of c.lower_each.new.heap)) c.note_near-noted.ensures.references c.lower_each.ensures);
+      (subst (λ (xs : List ℕ). Lowered xs (view_of c.entries.heap) (view_of c.lower_each.new.heap)) c.note_near-noted.ensures.references c.lower_each.ensures.lowered);
+  unheld = c.lower_each.ensures.unheld;
   looks = omega (arith, c.entries.invariant.looks, c.note_near-noted.ensures.steps, c.note_near-noted.ensures.next);
   space = omega (arith, c.note_near-noted.ensures.room, c.entries.invariant.space);
 }
+
+pub lower_each-requires-clause-few : goal.lower_each-requires-clause-few
+lower_each-requires-clause-few g c = few_same (view_of c.args.heap.now) (view_of c.entries.heap) c.entries.invariant.lowering.lowered.rest c.requires.few

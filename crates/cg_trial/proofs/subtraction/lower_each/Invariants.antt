@@ -1,4 +1,5 @@
-use Rattle.std.proofs.Common.{length, ◌+◌, ◌-◌, ◌≤◌, take}
+use Rattle.std.proofs.Common.{◌≡◌, length, ◌+◌, ◌-◌, ◌≤◌, take}
+use Rattle.cg_trial.specs.Sift.{zeros}
 use Rattle.cg_trial.specs.View.{view_of, Lowered}
 use Rattle.cg_trial.proofs.subtraction.lower_each.Given as goal
 
@@ -7,6 +8,7 @@ invariant-runs g l = record {
   lowered : Lowered (take (l.next - 1) l.objects) (view_of l.fn.heap) (view_of l.heap);
   within : l.next ≤ length l.objects + 1;
   behind : 1 ≤ l.next;
+  unheld : l.unheld ≡ zeros (view_of l.heap);
 }
 
 abbrev pub decreases-runs : goal.decreases-runs

@@ -7,42 +7,45 @@ use Rattle.cg_trial.proofs.Passes.{but_numbers_more, ready_same, cand_same}
 use Rattle.cg_trial.proofs.Splits.{sieved_of, counted_room, apart_same, empty_same, entries_same}
 use Rattle.cg_trial.proofs.subtraction.sift.Goals as goal
 
-pub copy-requires : goal.copy-requires
-copy-requires g c = record { ready = is_ready c.args.heap.now c.sound.ensures }
+pub copy-unheld-requires-clause-ready : goal.copy-unheld-requires-clause-ready
+copy-unheld-requires-clause-ready g c = is_ready c.args.heap.now c.sound.ensures
 
-pub subtract-requires-clause-ready : goal.subtract-requires-clause-ready
-subtract-requires-clause-ready g c = ready_same _ _ (is_ready c.args.heap.now c.sound.ensures) c.copy.ensures.same
+pub subtract-unheld-requires-clause-ready : goal.subtract-unheld-requires-clause-ready
+subtract-unheld-requires-clause-ready g c = ready_same _ _ (is_ready c.args.heap.now c.sound.ensures) c.copy-unheld.ensures.same
 
-pub subtract-requires-clause-room : goal.subtract-requires-clause-room
-subtract-requires-clause-room g c = counted_room (view_of c.args.heap.now) (view_of c.copy.new.heap) c.copy.ensures.same c.copy.ensures.copied (is_counted c.args.heap.now c.sound.ensures)
+pub subtract-unheld-requires-clause-none : goal.subtract-unheld-requires-clause-none
+subtract-unheld-requires-clause-none g c = empty_same Back (view_of c.args.heap.now) (view_of c.copy-unheld.new.heap) c.copy-unheld.ensures.same c.requires.none
+
+pub subtract-unheld-requires-clause-room : goal.subtract-unheld-requires-clause-room
+subtract-unheld-requires-clause-room g c = counted_room (view_of c.args.heap.now) (view_of c.copy-unheld.new.heap) c.copy-unheld.ensures.same c.copy-unheld.ensures.copied (is_counted c.args.heap.now c.sound.ensures)
 
 pub take_out-requires-clause-ready : goal.take_out-requires-clause-ready
-take_out-requires-clause-ready g c = ready_same _ _ (is_ready c.args.heap.now c.sound.ensures) (but_numbers_more c.copy.ensures.same c.subtract.ensures.lowered.rest)
+take_out-requires-clause-ready g c = ready_same _ _ (is_ready c.args.heap.now c.sound.ensures) (but_numbers_more c.copy-unheld.ensures.same c.subtract-unheld.ensures.lowered.rest)
 
 pub take_out-requires-clause-alone : goal.take_out-requires-clause-alone
-take_out-requires-clause-alone g c = apart_same (view_of c.args.heap.now) (view_of c.subtract.new.heap) (but_numbers_more c.copy.ensures.same
-    c.subtract.ensures.lowered.rest) (is_apart c.args.heap.now c.sound.ensures)
+take_out-requires-clause-alone g c = apart_same (view_of c.args.heap.now) (view_of c.subtract-unheld.new.heap) (but_numbers_more c.copy-unheld.ensures.same
+    c.subtract-unheld.ensures.lowered.rest) (is_apart c.args.heap.now c.sound.ensures)
 
 pub take_out-requires-clause-empty : goal.take_out-requires-clause-empty
-take_out-requires-clause-empty g c = empty_same c.args.kept (view_of c.args.heap.now) (view_of c.subtract.new.heap) (but_numbers_more c.copy.ensures.same
-    c.subtract.ensures.lowered.rest) c.requires.empty
+take_out-requires-clause-empty g c = empty_same c.args.kept (view_of c.args.heap.now) (view_of c.subtract-unheld.new.heap) (but_numbers_more c.copy-unheld.ensures.same
+    c.subtract-unheld.ensures.lowered.rest) c.requires.empty
 
 pub take_out-requires-clause-none : goal.take_out-requires-clause-none
-take_out-requires-clause-none g c = empty_same Back (view_of c.args.heap.now) (view_of c.subtract.new.heap) (but_numbers_more c.copy.ensures.same c.subtract.ensures.lowered.rest) c.requires.none
+take_out-requires-clause-none g c = empty_same Back (view_of c.args.heap.now) (view_of c.subtract-unheld.new.heap) (but_numbers_more c.copy-unheld.ensures.same c.subtract-unheld.ensures.lowered.rest) c.requires.none
 
 pub returns-clause-sifted : goal.returns-clause-sifted
-returns-clause-sifted g c = sieved_of _ _ _ _ c.copy.ensures.same c.copy.ensures.copied c.subtract.ensures.lowered _ c.take_out.ensures.sifted
+returns-clause-sifted g c = sieved_of _ _ _ _ c.copy-unheld.ensures.same c.copy-unheld.ensures.copied c.subtract-unheld.ensures.lowered _ c.take_out.ensures.sifted
 
 pub returns-clause-least : goal.returns-clause-least
 returns-clause-least g c =
-    let same = c.copy.ensures.same in
-    let first = entries_same (view_of c.args.heap.now) (view_of c.copy.new.heap) (list_at c.copy.new.heap Cand) (list_at c.args.heap.now Cand) same.same (cand_same same) in
-    omega (arith, first, c.subtract.ensures.looks, c.take_out.ensures.later)
+    let same = c.copy-unheld.ensures.same in
+    let first = entries_same (view_of c.args.heap.now) (view_of c.copy-unheld.new.heap) (list_at c.copy-unheld.new.heap Cand) (list_at c.args.heap.now Cand) same.same (cand_same same) in
+    omega (arith, first, c.subtract-unheld.ensures.looks, c.take_out.ensures.later)
 
 pub returns-clause-most : goal.returns-clause-most
 returns-clause-most g c =
-    let same = c.copy.ensures.same in
-    let both = but_numbers_more same c.subtract.ensures.lowered.rest in
-    let first = entries_same (view_of c.args.heap.now) (view_of c.copy.new.heap) (list_at c.copy.new.heap Cand) (list_at c.args.heap.now Cand) same.same (cand_same same) in
-    let second = entries_same (view_of c.args.heap.now) (view_of c.subtract.new.heap) (list_at c.subtract.new.heap Cand) (list_at c.args.heap.now Cand) both.same (cand_same both) in
-    omega (arith, first, second, c.subtract.ensures.looks, c.take_out.ensures.looks)
+    let same = c.copy-unheld.ensures.same in
+    let both = but_numbers_more same c.subtract-unheld.ensures.lowered.rest in
+    let first = entries_same (view_of c.args.heap.now) (view_of c.copy-unheld.new.heap) (list_at c.copy-unheld.new.heap Cand) (list_at c.args.heap.now Cand) same.same (cand_same same) in
+    let second = entries_same (view_of c.args.heap.now) (view_of c.subtract-unheld.new.heap) (list_at c.subtract-unheld.new.heap Cand) (list_at c.args.heap.now Cand) both.same (cand_same both) in
+    omega (arith, first, second, c.subtract-unheld.ensures.looks, c.take_out.ensures.looks)

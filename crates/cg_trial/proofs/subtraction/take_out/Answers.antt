@@ -24,8 +24,8 @@ returns-in_default g c = record {
   looks = c.set_aside.ensures.looks;
 }
 
-pub returns-else-zeros-size-clause-sifted : goal.returns-else-zeros-size-clause-sifted
-returns-else-zeros-size-clause-sifted g c =
+pub returns-else-unheld-size-clause-sifted : goal.returns-else-unheld-size-clause-sifted
+returns-else-unheld-size-clause-sifted g c =
     let v = view_of c.args.heap.now in
     sifted_none c.args.kept v c.requires.empty
-    (all_zero v (v.listed Cand) (omega (arith, c.if-zeros-size.false, c.size.ensures, c.count_zeros-zeros.ensures, ap (sum_by (is_zero v)) c.requires.none)))
+    (all_zero v (v.listed Cand) (omega (arith, c.if-unheld-size.false, c.size.ensures, c.requires.unheld, ap (sum_by (is_zero v)) c.requires.none)))
