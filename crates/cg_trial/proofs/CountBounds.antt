@@ -5,7 +5,7 @@ use Rattle.std.specs.Ordering.{nat_cmp}
 use Rattle.std.specs.FinMap as fin
 use Rattle.std.proofs.lemmas.Bool.{eq-eqb}
 use Rattle.std.proofs.lemmas.List.Sums.{sum_by-append, sum_by-cons}
-use Rattle.cg_value.specs.declared.Place.TheVariants.{Cand}
+use Rattle.cg_value.specs.declared.Place.{Place}
 use Rattle.cg_graph.specs.Member.{Includes}
 use Rattle.cg_graph.specs.Value.{references}
 use Rattle.cg_graph.specs.Holdings.{occurrences}
@@ -57,11 +57,11 @@ held_inside store s xs once =
     let same = sum_by-same (λ m. occurrences s (references (entries_of store m))) (λ o. part (held_by s) (fin.get store.nodes o)) xs (λ m h. held_part s (fin.get store.nodes m)) in
     omega (arith, same, some_of_total (held_by s) xs store.nodes once)
 
-module _ (store : Store) (sound : IsSound store) where
-  pub is_ready : IsReadyView (view_of store)
+module _ (members : Place) (store : Store) (sound : IsSound store) where
+  pub is_ready : IsReadyView members (view_of store)
   is_ready = record {
-    once = once_at store sound.listed Cand;
-    alive = λ o h. (where_is store sound.listed Cand o h).0;
+    once = once_at store sound.listed members;
+    alive = λ o h. (where_is store sound.listed members o h).0;
     closed = λ o p live h.
         let some = held_inside store p (o ∷ []) (λ q. omega (arith, occurrences-cons q o [], bit (o == q))) in
         let one = sum_by-cons (λ m. occurrences p (references (entries_of store m))) o [] in
@@ -73,8 +73,8 @@ module _ (store : Store) (sound : IsSound store) where
       bit true = omega arith
       bit false = omega arith
 
-  pub is_counted : (o : ℕ) → occurrences o (held_by_all (view_of store) (list_at store Cand)) ≤ count_of store o
-  is_counted o = omega (arith, occurrences-held_by o (view_of store) (list_at store Cand), held_inside store o (list_at store Cand) (once_at store sound.listed Cand))
+  pub is_counted : (o : ℕ) → occurrences o (held_by_all (view_of store) (list_at store members)) ≤ count_of store o
+  is_counted o = omega (arith, occurrences-held_by o (view_of store) (list_at store members), held_inside store o (list_at store members) (once_at store sound.listed members))
 
-  pub is_apart : IsNowhereElse (view_of store)
-  is_apart q o h i = apart store sound.listed Cand q o (λ e. h (sym e)) i
+  pub is_apart : IsNowhereElse members (view_of store)
+  is_apart q o h i = apart store sound.listed members q o (λ e. h (sym e)) i

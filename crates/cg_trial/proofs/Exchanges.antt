@@ -1,21 +1,21 @@
--- The walk ends: the remaining candidates and those set aside go to their final places.
+-- The walk ends: the reached objects and the others go to their final places.
 use Rattle.std.proofs.Common.{◌≡◌, ◌≢◌, refl, sym, ◌∙◌, ap, subst, ℕ, ◌<◌, ◌≤◌, ◌⊎◌, inl, inr, List, [], ◌∷◌, ◌++◌, length, Option, Some, None, IsTrue, arith, append_assoc}
-use Rattle.std.proofs.lemmas.Bool.{cases_eq}
 use Rattle.std.proofs.lemmas.List.{append-nil}
 use Rattle.std.specs.Prelude.{sum_by, cond, ◌==◌}
 use Rattle.cg_value.specs.declared.Place.{Place}
-use Rattle.cg_value.specs.declared.Place.TheVariants.{Cand, Back}
+use Rattle.cg_value.specs.declared.Place.TheVariants.{Gen, Cand, Back}
 use Rattle.cg_graph.specs.Member.{Includes}
 use Rattle.cg_graph.specs.Holdings.{occurrences}
-use Rattle.cg_graph.specs.Places.{place_number, without_serial}
+use Rattle.cg_graph.specs.Places.{without_serial}
 use Rattle.cg_graph.proofs.Members.{Includes-append_cases, Includes-append_right}
 use Rattle.cg_graph.proofs.Objects.{occurrences-append}
+use Rattle.cg_trial.specs.declared.subtraction.Search.{Search}
 use Rattle.cg_trial.specs.View.{View, IsSame, Moved, Merged, IsReadyView, head_of}
-use Rattle.cg_trial.specs.Sift.{AreOthersSame, Walk, starts, goes, IsNowhereElse, IsParted, IsTwofold, IsExchanged, IsSifted, IsMember}
+use Rattle.cg_trial.specs.Sift.{IsSearch, candidate_search, AreOthersSame, Walk, starts, goes, IsNowhereElse, IsParted, IsTwofold, IsExchanged, IsSifted, IsMember}
 use Rattle.cg_trial.proofs.Lists.{head_is, without-absent, once_before}
 use Rattle.cg_trial.proofs.Passes.{same_itself, same_more}
 use Rattle.cg_trial.proofs.Entries.{live_same}
-use Rattle.cg_trial.proofs.PlacesOfObjects.{one_place}
+use Rattle.cg_trial.proofs.Searches.{by_search}
 use Rattle.cg_trial.proofs.WalkInvariant.{without_middle}
 use Rattle.cg_trial.proofs.TakingBack.{member_within}
 
@@ -29,7 +29,7 @@ pub record Exchanging (old now : View) (cursor : Option ℕ) : Type 0 where
   pub at : cursor ≡ head_of (now.listed Cand)
   pub same : IsSame old now
   pub numbers : now.number ≡ old.number
-  pub others : AreOthersSame old now
+  pub others : AreOthersSame candidate_search old now
 
 pub exchanging_first : (old now : View) (cursor : Option ℕ) → Merged Back Cand old now → cursor ≡ head_of (now.listed Cand) → Exchanging old now cursor
 exchanging_first old now cursor merged is = record {
@@ -62,10 +62,10 @@ module _ (old now : View) (o : ℕ) (so : Exchanging old now (Some o)) (two : Is
   pub exchanging_live : IsTrue (now.live o)
   exchanging_live = live_same old now o so.same (two.alive o (within stands_first))
     where
-      within : Includes (now.listed Cand) o → IsMember old o
+      within : Includes (now.listed Cand) o → IsMember candidate_search old o
       within h = go (Includes-append_cases so.rest (old.listed Back) o (subst (λ (xs : List ℕ). Includes xs o) so.candidates h))
         where
-          go : Includes so.rest o ⊎ Includes (old.listed Back) o → IsMember old o
+          go : Includes so.rest o ⊎ Includes (old.listed Back) o → IsMember candidate_search old o
           go (inl k) = inl (subst (λ (xs : List ℕ). Includes xs o) (sym so.whole) (Includes-append_right so.gone so.rest o k))
           go (inr k) = inr k
 
@@ -139,31 +139,63 @@ exchanged_all old now cursor so is = exchanged old now cursor so (known so.rest 
     known [] then = refl
     known (x ∷ xs) then = absurd (let e : None ≡ Some x = sym is ∙ so.at ∙ ap head_of then in cc)
 
--- No candidate has a number: nothing is reached.
-pub sifted_none : (kept : Place) (v : View) → v.listed kept ≡ [] → ((o : ℕ) → Includes (v.listed Cand) o → v.number o ≡ 0) → IsSifted kept v v
-sifted_none kept v empty zero = record {
+-- No member has a number: nothing is reached.
+nowhere : (members : Place) (v : View) → ((o : ℕ) → Includes (v.listed members) o → v.number o ≡ 0) → (o : ℕ) → Walk v (v.listed members) o → ⊥
+nowhere members v zero o (starts n h) = n (zero o h)
+nowhere members v zero o (goes {o = p} w r h) = nowhere members v zero p w
+
+pub none_reached : (v : View) → v.listed Back ≡ [] → ((o : ℕ) → Includes (v.listed Cand) o → v.number o ≡ 0) → IsSifted Cand v v
+none_reached v empty zero = record {
   same = same_itself v;
   others = λ q h k. refl;
   sums = λ f. omega (arith, ap (sum_by f) empty);
   reached = λ o h. absurd (subst (λ (xs : List ℕ). Includes xs o) empty h);
-  all_reached = λ o w. absurd (nowhere o w);
+  all_reached = λ o w. absurd (nowhere Cand v zero o w);
 }
-  where
-    nowhere : (o : ℕ) → Walk v (v.listed Cand) o → ⊥
-    nowhere o (starts n h) = n (zero o h)
-    nowhere o (goes {o = p} w r h) = nowhere p w
 
-module _ (old mid : View) (parted : IsParted old mid) where
-  pub parted_twofold : IsReadyView old → IsNowhereElse old → IsTwofold mid
+-- all members of a generation become the candidates
+pub none_kept : (s : Search) → IsSearch s → s.members ≢ Cand → (v new : View) → v.listed s.aside ≡ [] → ((o : ℕ) → Includes (v.listed s.members) o → v.number o ≡ 0)
+    → Merged s.members s.aside v new → IsSifted s.members v new
+none_kept s is =
+    by_search (λ (t : Search). t.members ≢ Cand → (v new : View) → v.listed t.aside ≡ [] → ((o : ℕ) → Includes (v.listed t.members) o → v.number o ≡ 0) → Merged t.members t.aside v new → IsSifted t.members v new)
+    (λ differ. absurd (differ refl))
+    (λ i few differ v new empty zero merged. record {
+      same = merged.same;
+      others = λ q h k. merged.others q k h;
+      sums = λ f. omega (arith, ap (sum_by f) (merged.joined ∙ ap (λ (xs : List ℕ). xs ++ v.listed (Gen i)) empty), ap (sum_by f) merged.emptied);
+      reached = λ o h. absurd (subst (λ (xs : List ℕ). Includes xs o) merged.emptied h);
+      all_reached = λ o w. absurd (nowhere (Gen i) v zero o w);
+    }) s is
+
+-- those set aside are the candidates
+pub sifted_parted : (s : Search) → IsSearch s → s.members ≢ Cand → (old new : View) → IsParted s old new → IsSifted s.members old new
+sifted_parted s is =
+    by_search (λ (t : Search). t.members ≢ Cand → (old new : View) → IsParted t old new → IsSifted t.members old new)
+    (λ differ. absurd (differ refl))
+    (λ i few differ old new parted. record {
+      same = parted.same;
+      others = λ q h k. parted.others q k h;
+      sums = λ f. omega (arith, parted.sums f);
+      reached = parted.reached;
+      all_reached = parted.all_reached;
+    }) s is
+
+-- those set aside and the other candidates have to exchange places
+pub parted_candidates : (s : Search) → IsSearch s → s.members ≡ Cand → (old mid : View) → IsParted s old mid → IsParted candidate_search old mid
+parted_candidates s is =
+    by_search (λ (t : Search). t.members ≡ Cand → (old mid : View) → IsParted t old mid → IsParted candidate_search old mid) (λ e old mid parted. parted) (λ i few e. absurd (cc)) s is
+
+module _ (old mid : View) (parted : IsParted candidate_search old mid) where
+  pub parted_twofold : IsReadyView Cand old → IsNowhereElse Cand old → IsTwofold mid
   parted_twofold ready alone = record {
-    alive = λ o h. live_same old mid o parted.same (ready.alive o (member_within old mid parted.sums o h));
+    alive = λ o h. live_same old mid o parted.same (ready.alive o (member_within candidate_search old mid parted.sums o h));
     once = λ o. omega (arith, parted.sums (λ x. cond (x == o) 1 0), ready.once o);
-    alone = λ q o h k m. ap (occurrences o) (parted.others q h k) ∙ alone q o h (member_within old mid parted.sums o m);
+    alone = λ q o h k m. ap (occurrences o) (parted.others q h k) ∙ alone q o h (member_within candidate_search old mid parted.sums o m);
     numbered = parted.numbered;
     asleep = parted.asleep;
   }
 
-  pub sifted_exchanged : (new : View) → IsExchanged mid new → IsSifted Back old new
+  pub sifted_exchanged : (new : View) → IsExchanged mid new → IsSifted Cand old new
   sifted_exchanged new then = record {
     same = same_more parted.same then.same;
     others = λ q h k. then.others q h k ∙ parted.others q h k;
@@ -171,27 +203,3 @@ module _ (old mid : View) (parted : IsParted old mid) where
     reached = λ o h. parted.reached o (subst (λ (xs : List ℕ). Includes xs o) then.aside h);
     all_reached = λ o w. subst (λ (xs : List ℕ). Includes xs o) (sym then.aside) (parted.all_reached o w);
   }
-
-  -- the remaining ones go to the kept place, and those set aside become the candidates
-  module _ (kept : Place) (half new : View) (apart : kept ≢ Cand) (other : kept ≢ Back) (empty : old.listed kept ≡ []) (none : old.listed Back ≡ [])
-      (first : Merged Cand kept mid half) (then : Merged Back Cand half new) where
-    kept_now : new.listed kept ≡ mid.listed Cand
-    kept_now = then.others kept other apart ∙ first.joined ∙ ap (λ (xs : List ℕ). xs ++ mid.listed Cand) (parted.others kept apart other ∙ empty)
-
-    candidates_now : new.listed Cand ≡ mid.listed Back
-    candidates_now = then.joined ∙ (λ i. first.emptied i ++ first.others Back (λ e. absurd (cc)) (λ e. other (sym e)) i)
-
-    others_now : (q : Place) → q ≢ Cand → q ≢ kept → new.listed q ≡ old.listed q
-    others_now q h k = elim (cases_eq (place_number q) (place_number Back)) [
-      | inl same ↦ let e = one_place q Back same in ap new.listed e ∙ then.emptied ∙ sym none ∙ ap old.listed (sym e)
-      | inr differs ↦ let d : q ≢ Back = λ e. differs (ap place_number e) in then.others q d h ∙ first.others q h k ∙ parted.others q h d
-    ]
-
-    pub sifted_merged : IsSifted kept old new
-    sifted_merged = record {
-      same = same_more parted.same (same_more first.same then.same);
-      others = others_now;
-      sums = λ f. omega (arith, ap (sum_by f) candidates_now, ap (sum_by f) kept_now, parted.sums f);
-      reached = λ o h. parted.reached o (subst (λ (xs : List ℕ). Includes xs o) kept_now h);
-      all_reached = λ o w. subst (λ (xs : List ℕ). Includes xs o) (sym kept_now) (parted.all_reached o w);
-    }

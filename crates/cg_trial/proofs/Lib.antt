@@ -1,5 +1,6 @@
 pub mod Lists
 pub mod Passes
+pub mod Searches
 pub mod Entries
 pub mod TakingBack
 pub mod Backward

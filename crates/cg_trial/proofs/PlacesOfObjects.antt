@@ -14,6 +14,8 @@ use Rattle.cg_graph.proofs.Members.{cases_of, Includes-append_right}
 use Rattle.cg_arena.specs.Nodes.{following, count_in_list, TakesNumber}
 use Rattle.cg_heap.specs.Calls.{IsListed}
 use Rattle.cg_trial.specs.View.{view_of, IsNext}
+use Rattle.cg_trial.specs.Split.{IsSplitPlace}
+use Rattle.cg_trial.specs.Sift.{CanBeNumbered}
 use Rattle.cg_trial.proofs.Lists.{occurs, occurs_in, occurrences-cons, once_before, none_or_some}
 
 -- no two places have the same number
@@ -114,6 +116,10 @@ module _ (store : Store) (listed : IsListed store) where
       let same : list_at store (place_of store o) ≡ front ++ o ∷ back = ap (list_at store) (where_is place o here).1 ∙ parts in
       is ∙ ap (following o) same ∙ after_front o front back (once_before (list_at store place) front back o (once_at place o) parts).0
 
-  -- a candidate takes a number
-  pub takes_number : (o : ℕ) → Includes (list_at store Cand) o → TakesNumber (place_of store o)
-  takes_number o h = subst TakesNumber (sym (where_is Cand o h).1) tt
+  pub takes_number : (o : ℕ) → CanBeNumbered (view_of store) o → TakesNumber (place_of store o)
+  takes_number o (p, is, h) = subst TakesNumber (sym (where_is p o h).1) (takes p is)
+    where
+      takes : (q : Place) → IsSplitPlace q → TakesNumber q
+      takes (Gen i) is = tt
+      takes Cand is = tt
+      takes q is = absurd is

@@ -2,7 +2,6 @@
 use Rattle.std.proofs.Common.{◌≡◌, refl, sym, ◌∙◌, ap, subst, ℕ, ◌+◌, ◌<◌, ◌≤◌, inl, inr, List, [], ◌∷◌, ◌++◌, length, map, arith}
 use Rattle.std.specs.Prelude.{sum_by, flat_map}
 use Rattle.cg_value.specs.declared.Place.{Place}
-use Rattle.cg_value.specs.declared.Place.TheVariants.{Cand}
 use Rattle.cg_value.specs.declared.Entry.{Entry}
 use Rattle.cg_graph.specs.Member.{Includes}
 use Rattle.cg_graph.specs.Holdings.{occurrences, entry_holdings}
@@ -13,7 +12,7 @@ use Rattle.cg_graph.specs.Reach.{edges, Reach, first, next}
 use Rattle.cg_trial.specs.Paths.{graph_in, Reached, entries_in}
 use Rattle.cg_trial.specs.Sift.{Walk, starts, goes, IsNowhereElse, IsSifted, IsSieved}
 use Rattle.cg_graph.proofs.Members.{Includes-map, Includes-map_cases, either, Includes-append_cases, Includes-append_left, Includes-append_right}
-use Rattle.cg_trial.proofs.Passes.{cand_same, same_more, but_numbers_more}
+use Rattle.cg_trial.proofs.Passes.{list_same, same_more, but_numbers_more}
 use Rattle.cg_trial.proofs.Entries.{refs_same}
 
 abbrev pub arrow : ℕ → ℕ → Edge
@@ -53,57 +52,45 @@ walk_member v members o (starts n h) = h
 walk_member v members o (goes w r h) = h
 
 -- The counts were copied from v to a, then lowered from a to b; then the walk went from b to c.
-module _ (v a b c : View) (copied : IsSameButNumbers v a) (counts : (o : ℕ) → Includes (v.listed Cand) o → a.number o ≡ v.degree o)
-    (lowered : Lowered (held_by a (a.listed Cand)) a b) where
+module _ (members : Place) (v a b c : View) (copied : IsSameButNumbers v a) (counts : (o : ℕ) → Includes (v.listed members) o → a.number o ≡ v.degree o)
+    (lowered : Lowered members (held_by a (a.listed members)) a b) where
   same_b : IsSameButNumbers v b
   same_b = but_numbers_more copied lowered.rest
 
-  number_b : (o : ℕ) → Includes (v.listed Cand) o → b.number o + occurrences o (entry_holdings (graph_in v (v.listed Cand))) ≡ v.degree o
+  number_b : (o : ℕ) → Includes (v.listed members) o → b.number o + occurrences o (entry_holdings (graph_in v (v.listed members))) ≡ v.degree o
   number_b o h =
-      let e = lowered.lower o (subst (λ (xs : List ℕ). Includes xs o) (sym (cand_same copied)) h) in
-      let f : occurrences o (held_by a (a.listed Cand)) ≡ occurrences o (entry_holdings (graph_in v (v.listed Cand))) =
-      ap (occurrences o) (held_same v a (a.listed Cand) (v.listed Cand) copied.same (cand_same copied) ∙ sym (holdings_of v (v.listed Cand))) in
+      let e = lowered.lower o (subst (λ (xs : List ℕ). Includes xs o) (sym (list_same members copied)) h) in
+      let f : occurrences o (held_by a (a.listed members)) ≡ occurrences o (entry_holdings (graph_in v (v.listed members))) =
+      ap (occurrences o) (held_same v a (a.listed members) (v.listed members) copied.same (list_same members copied) ∙ sym (holdings_of v (v.listed members))) in
       let g = counts o h in
       omega arith
 
-  walk_path : (o : ℕ) → Walk b (v.listed Cand) o → Reached v (v.listed Cand) o
+  walk_path : (o : ℕ) → Walk b (v.listed members) o → Reached v (v.listed members) o
   walk_path o (starts n h) = first (let e = number_b o h in omega arith) h
   walk_path o (goes {o = p} w r h) =
-      next (walk_path p w) (edges_in v (v.listed Cand) p o (walk_member b (v.listed Cand) p w) (subst (λ (es : List ℕ). Includes es o) (refs_same v b p same_b.same) r)) h
+      next (walk_path p w) (edges_in v (v.listed members) p o (walk_member b (v.listed members) p w) (subst (λ (es : List ℕ). Includes es o) (refs_same v b p same_b.same) r)) h
 
-  path_walk : (o : ℕ) → Reached v (v.listed Cand) o → Walk b (v.listed Cand) o
+  path_walk : (o : ℕ) → Reached v (v.listed members) o → Walk b (v.listed members) o
   path_walk o (first k h) = starts (λ z. let e = number_b o h in absurd (omega arith)) h
-  path_walk o (next {o = p} w e h) = goes (path_walk p w) (subst (λ (es : List ℕ). Includes es o) (sym (refs_same v b p same_b.same)) (edges_out v (v.listed Cand) p o e).1) h
+  path_walk o (next {o = p} w e h) = goes (path_walk p w) (subst (λ (es : List ℕ). Includes es o) (sym (refs_same v b p same_b.same)) (edges_out v (v.listed members) p o e).1) h
 
-  pub sieved_of : (kept : Place) → IsSifted kept b c → IsSieved kept v c
-  sieved_of kept s = record {
+  pub sieved_of : IsSifted members b c → IsSieved members v c
+  sieved_of s = record {
     same = same_more same_b.same s.same;
-    others = λ q h k. s.others q h k ∙ ap (λ (l : Place → List ℕ). l q) same_b.places;
-    sums = λ f. s.sums f ∙ ap (sum_by f) (cand_same same_b);
-    reached = λ o h. walk_path o (subst (λ (xs : List ℕ). Walk b xs o) (cand_same same_b) (s.reached o h));
-    all_reached = λ o w. s.all_reached o (subst (λ (xs : List ℕ). Walk b xs o) (sym (cand_same same_b)) (path_walk o w));
+    others = λ q h k. s.others q h k ∙ list_same q same_b;
+    sums = λ f. s.sums f ∙ ap (sum_by f) (list_same members same_b);
+    reached = λ o h. walk_path o (subst (λ (xs : List ℕ). Walk b xs o) (list_same members same_b) (s.reached o h));
+    all_reached = λ o w. s.all_reached o (subst (λ (xs : List ℕ). Walk b xs o) (sym (list_same members same_b)) (path_walk o w));
   }
 
-pub counted_room : (v a : View) → IsSameButNumbers v a → ((o : ℕ) → Includes (v.listed Cand) o → a.number o ≡ v.degree o) → ((o : ℕ) → occurrences o (held_by v (v.listed Cand)) ≤ v.degree o)
-    → (o : ℕ) → Includes (a.listed Cand) o → occurrences o (held_by a (a.listed Cand)) ≤ a.number o
-counted_room v a rest counts counted o h =
-    let e = counts o (subst (λ (xs : List ℕ). Includes xs o) (cand_same rest) h) in
-    let f : occurrences o (held_by a (a.listed Cand)) ≡ occurrences o (held_by v (v.listed Cand)) = ap (occurrences o) (held_same v a (a.listed Cand) (v.listed Cand) rest.same (cand_same rest)) in
+pub counted_room : (members : Place) (v a : View) → IsSameButNumbers v a → ((o : ℕ) → Includes (v.listed members) o → a.number o ≡ v.degree o) → ((o : ℕ) → occurrences o (held_by v (v.listed members)) ≤ v.degree o)
+    → (o : ℕ) → Includes (a.listed members) o → occurrences o (held_by a (a.listed members)) ≤ a.number o
+counted_room members v a rest counts counted o h =
+    let e = counts o (subst (λ (xs : List ℕ). Includes xs o) (list_same members rest) h) in
+    let f : occurrences o (held_by a (a.listed members)) ≡ occurrences o (held_by v (v.listed members)) = ap (occurrences o) (held_same v a (a.listed members) (v.listed members) rest.same (list_same members rest)) in
     let g = counted o in
     omega arith
 
-pub apart_same : (v b : View) → IsSameButNumbers v b → IsNowhereElse v → IsNowhereElse b
-apart_same v b rest alone = λ q o h i.
-    ap (λ (l : Place → List ℕ). occurrences o (l q)) rest.places ∙ alone q o h (subst (λ (xs : List ℕ). Includes xs o) (cand_same rest) i)
-
-pub empty_same : (kept : Place) (v b : View) → IsSameButNumbers v b → v.listed kept ≡ [] → b.listed kept ≡ []
-empty_same kept v b rest empty = ap (λ (l : Place → List ℕ). l kept) rest.places ∙ empty
-
--- Equal entries and counts give the same paths.
-pub reached_same : (v m : View) (members : List ℕ) (o : ℕ) → IsSame v m → Reached m members o → Reached v members o
-reached_same v m members o same r =
-    subst (λ (es : ℕ → List Entry). Reach (λ q. occurrences q (entry_holdings (map (λ p. (p, es p)) members)) < v.degree q) (Includes members) (edges (map (λ p. (p, es p)) members)) o) same.hold
-    (subst (λ (d : ℕ → ℕ). Reach (λ q. occurrences q (entry_holdings (graph_in m members)) < d q) (Includes members) (edges (graph_in m members)) o) same.degrees r)
-
-pub same_back : {v m : View} → IsSame v m → IsSame m v
-same_back s = record { lives = sym s.lives; hold = sym s.hold; degrees = sym s.degrees; bares = sym s.bares; besides = sym s.besides }
+pub apart_same : (members : Place) (v b : View) → IsSameButNumbers v b → IsNowhereElse members v → IsNowhereElse members b
+apart_same members v b rest alone = λ q o h i.
+    ap (occurrences o) (list_same q rest) ∙ alone q o h (subst (λ (xs : List ℕ). Includes xs o) (list_same members rest) i)

@@ -4,7 +4,7 @@ use Rattle.std.specs.FinMap as fin
 use Rattle.cg_value.specs.declared.Val.{Val}
 use Rattle.cg_value.specs.declared.Entry.{Entry}
 use Rattle.cg_value.specs.declared.Place.{Place}
-use Rattle.cg_value.specs.declared.Place.TheVariants.{Cand, Untracked}
+use Rattle.cg_value.specs.declared.Place.TheVariants.{Untracked}
 use Rattle.cg_graph.specs.Member.{Includes}
 use Rattle.cg_graph.specs.Value.{references, reference_in}
 use Rattle.cg_graph.specs.Holdings.{occurrences}
@@ -99,13 +99,13 @@ targets value = option_to_list (reference_in value)
 abbrev pub held_by : View → List ℕ → List ℕ
 held_by v members = flat_map (λ o. references (v.entries o)) members
 
--- Each candidate is in the list once, and references lead to live objects.
-pub record IsReadyView (v : View) : Type 0 where
-  pub once : (o : ℕ) → occurrences o (v.listed Cand) ≤ 1
-  pub alive : (o : ℕ) → Includes (v.listed Cand) o → IsTrue (v.live o)
+-- Each member of a place is in its list once, and references lead to live objects.
+pub record IsReadyView (members : Place) (v : View) : Type 0 where
+  pub once : (o : ℕ) → occurrences o (v.listed members) ≤ 1
+  pub alive : (o : ℕ) → Includes (v.listed members) o → IsTrue (v.live o)
   pub closed : (o p : ℕ) → IsTrue (v.live o) → Includes (references (v.entries o)) p → IsTrue (v.live p)
 
--- Each candidate's number falls by its occurrences among the references.
-pub record Lowered (refs : List ℕ) (old new : View) : Type 0 where
+-- Each member's number falls by its occurrences among the references.
+pub record Lowered (members : Place) (refs : List ℕ) (old new : View) : Type 0 where
   pub rest : IsSameButNumbers old new
-  pub lower : (o : ℕ) → Includes (old.listed Cand) o → new.number o + occurrences o refs ≡ old.number o
+  pub lower : (o : ℕ) → Includes (old.listed members) o → new.number o + occurrences o refs ≡ old.number o

@@ -9,11 +9,11 @@ ghost use Rattle.cg_arena.specs.Nodes.{IsPlace};
 ghost use Rattle.cg_heap.specs.Calls.{IsListed};
 ghost use Rattle.cg_trial.specs.View.{view_of, IsReadyView, IsSameButNumbers, Lowered, held_by};
 ghost use Rattle.cg_trial.specs.Paths.{entries_in};
-ghost use Rattle.cg_trial.specs.Sift.{Woken, IsFirstZero, IsLastZero, HasFewMembers, IsNowhereElse, IsParted, IsTwofold, IsExchanged, IsSifted, IsSieved, zeros};
+ghost use Rattle.cg_trial.specs.Sift.{IsSearch, Woken, IsFirstZero, IsLastZero, HasFewMembers, IsNowhereElse, IsParted, IsTwofold, IsExchanged, IsSifted, IsSieved, zeros, zeros_at};
 ghost use Rattle.cg_trial.specs.Split.{IsSplitPlace, kept_place, entry_number_at, IsSameButPlaces};
 
 use crate::candidates::{
-    following, is_candidate, is_set_aside, lower_number, move_all, move_last, number_by_degree,
+    following, is_member, is_set_aside, lower_number, move_all, move_last, number_by_degree,
     set_number,
 };
 use cg_arena::Near;
@@ -22,20 +22,27 @@ use cg_kind::{AT_ONCE, Kind, ROOM};
 use cg_value::{KindCode, Place};
 use std::sync::ledger::Ledger;
 
-/// Sets each candidate's number to its count. Returns how many then have the number 0.
-fn copy<B: Kind>(heap: &mut Heap<B>) -> u64
-    requires ready { IsReadyView (view_of heap.old) }
-    requires none { (view_of heap.old).listed Place.Back ≡ [] }
+/// Where the searched objects are, and where those that look unreachable are set aside.
+#[derive(Clone, Copy)]
+struct Search {
+    members: Place,
+    aside: Place,
+}
+
+/// Sets each member's number to its count. Returns how many then have the number 0.
+fn copy<B: Kind>(heap: &mut Heap<B>, members: Place) -> u64
+    requires members { IsSplitPlace members }
+    requires ready { IsReadyView members (view_of heap.old) }
     ensures same { IsSameButNumbers (view_of heap.old) (view_of heap.new) }
-    ensures copied { (o : ℕ) → Includes ((view_of heap.old).listed Place.Cand) o
+    ensures copied { (o : ℕ) → Includes ((view_of heap.old).listed members) o
         → (view_of heap.new).number o ≡ (view_of heap.old).degree o }
-    ensures unheld { result ≡ zeros (view_of heap.new) }
+    ensures unheld { result ≡ zeros_at members (view_of heap.new) }
 {
     // Bounds the count, so that it fits in 64 bits.
-    let _all = heap.size(Place::Cand);
+    let _all = heap.size(members);
     let mut unheld = 0;
     let mut near = Near::default();
-    let mut cursor = heap.first_near(Place::Cand, &mut near);
+    let mut cursor = heap.first_near(members, &mut near);
     'objects: while let Some(object) = cursor {
         number_by_degree(heap, object, near);
         if heap.head_near(object, near).number == 0 {
@@ -64,64 +71,67 @@ fn end_of_run(objects: &[u64], from: usize) -> usize
     end
 }
 
-/// Lowers the number of each candidate among these objects by its number of occurrences. A run of
+/// Lowers the number of each member among these objects by its number of occurrences. A run of
 /// one object is looked up once; the object at `next` shows whether there is a run. `unheld`
 /// counts those that have the number 0.
 #[inline(always)]
-fn lower_each<B: Kind>(heap: &mut Heap<B>, objects: &[u64], unheld: &mut u64)
+fn lower_each<B: Kind>(heap: &mut Heap<B>, objects: &[u64], members: Place, unheld: &mut u64)
+    requires members { IsSplitPlace members }
     requires live { (o : ℕ) → Includes objects.now o → IsTrue ((view_of heap.old).live o) }
-    requires room { (o : ℕ) → Includes ((view_of heap.old).listed Place.Cand) o
+    requires room { (o : ℕ) → Includes ((view_of heap.old).listed members) o
         → occurrences o objects.now ≤ (view_of heap.old).number o }
-    requires few { HasFewMembers (view_of heap.old) }
-    requires unheld { unheld.old ≡ zeros (view_of heap.old) }
-    ensures lowered { Lowered objects.now (view_of heap.old) (view_of heap.new) }
-    ensures unheld { unheld.new ≡ zeros (view_of heap.new) }
+    requires few { HasFewMembers members (view_of heap.old) }
+    requires unheld { unheld.old ≡ zeros_at members (view_of heap.old) }
+    ensures lowered { Lowered members objects.now (view_of heap.old) (view_of heap.new) }
+    ensures unheld { unheld.new ≡ zeros_at members (view_of heap.new) }
 {
     let mut next = 1;
     'runs: while next < objects.len() {
         let object = objects[next - 1];
         if object == objects[next] {
             let end = end_of_run(objects, next - 1);
-            *unheld += lower_number(heap, object, end + 1 - next);
+            *unheld += lower_number(heap, object, end + 1 - next, members);
             next = end + 1;
         } else {
-            *unheld += lower_number(heap, object, 1);
+            *unheld += lower_number(heap, object, 1, members);
             next += 1;
         }
     }
     if next <= objects.len() {
-        *unheld += lower_number(heap, objects[next - 1], 1);
+        *unheld += lower_number(heap, objects[next - 1], 1, members);
     }
 }
 
-/// Lowers the numbers of candidates by one for each reference of an object's entries; takes a hint
+/// Lowers the numbers of members by one for each reference of an object's entries; takes a hint
 /// of its slot. `found` is a buffer for the references; `unheld` counts as in `lower_each`.
 fn lower_all<B: Kind, L: Ledger>(
     heap: &mut Heap<B>,
     object: u64,
     near: Near,
     found: &mut [u64],
+    members: Place,
     unheld: &mut u64,
     steps: &mut Steps<L>,
 )
-    requires ready { IsReadyView (view_of heap.old) }
+    requires members { IsSplitPlace members }
+    requires ready { IsReadyView members (view_of heap.old) }
     requires live { IsTrue ((view_of heap.old).live object) }
-    requires room { (o : ℕ) → Includes ((view_of heap.old).listed Place.Cand) o
+    requires room { (o : ℕ) → Includes ((view_of heap.old).listed members) o
         → occurrences o (references ((view_of heap.old).entries object)) ≤ (view_of heap.old).number
         o }
     requires space { ROOM ≤ length found.old }
-    requires few { HasFewMembers (view_of heap.old) }
-    requires unheld { unheld.old ≡ zeros (view_of heap.old) }
-    ensures lowered { Lowered (references ((view_of heap.old).entries object)) (view_of heap.old)
+    requires few { HasFewMembers members (view_of heap.old) }
+    requires unheld { unheld.old ≡ zeros_at members (view_of heap.old) }
+    ensures lowered { Lowered members (references ((view_of heap.old).entries object)) (view_of heap.old)
         (view_of heap.new) }
-    ensures unheld { unheld.new ≡ zeros (view_of heap.new) }
+    ensures unheld { unheld.new ≡ zeros_at members (view_of heap.new) }
     ensures looks { steps.new ≡ steps.old + length ((view_of heap.old).entries object) }
     ensures space { length found.new ≡ length found.old }
 {
     let mut from = 0;
     'entries: loop {
         let noted = heap.note_near(object, from, near, found, steps);
-        lower_each(heap, &found[..noted.references], unheld);
+        lower_each(heap, &found[..noted.references], members, unheld);
         if noted.next - from < AT_ONCE {
             return;
         }
@@ -129,29 +139,34 @@ fn lower_all<B: Kind, L: Ledger>(
     }
 }
 
-/// Lowers the numbers of candidates by one for each reference of the candidates' entries. `unheld`
-/// of them have the number 0 before; returns how many have it then.
-fn subtract<B: Kind, L: Ledger>(heap: &mut Heap<B>, unheld: u64, steps: &mut Steps<L>) -> u64
-    requires ready { IsReadyView (view_of heap.old) }
-    requires none { (view_of heap.old).listed Place.Back ≡ [] }
-    requires room { (o : ℕ) → Includes ((view_of heap.old).listed Place.Cand) o
-        → occurrences o (held_by (view_of heap.old) ((view_of heap.old).listed Place.Cand)) ≤
+/// Lowers the numbers of members by one for each reference of the members' entries. `unheld` of
+/// them have the number 0 before; returns how many have it then.
+fn subtract<B: Kind, L: Ledger>(
+    heap: &mut Heap<B>,
+    members: Place,
+    unheld: u64,
+    steps: &mut Steps<L>,
+) -> u64
+    requires members { IsSplitPlace members }
+    requires ready { IsReadyView members (view_of heap.old) }
+    requires room { (o : ℕ) → Includes ((view_of heap.old).listed members) o
+        → occurrences o (held_by (view_of heap.old) ((view_of heap.old).listed members)) ≤
         (view_of heap.old).number o }
-    requires unheld { unheld ≡ zeros (view_of heap.old) }
-    ensures lowered { Lowered (held_by (view_of heap.old) ((view_of heap.old).listed Place.Cand))
+    requires unheld { unheld ≡ zeros_at members (view_of heap.old) }
+    ensures lowered { Lowered members (held_by (view_of heap.old) ((view_of heap.old).listed members))
         (view_of heap.old) (view_of heap.new) }
-    ensures unheld { result ≡ zeros (view_of heap.new) }
+    ensures unheld { result ≡ zeros_at members (view_of heap.new) }
     ensures looks { steps.new ≡ steps.old + entries_in (view_of heap.old) ((view_of heap.old).listed
-        Place.Cand) }
+        members) }
 {
     // Bounds the count, so that it fits in 64 bits.
-    let _all = heap.size(Place::Cand);
+    let _all = heap.size(members);
     let mut unheld = unheld;
     let mut found = [0; ROOM];
     let mut near = Near::default();
-    let mut cursor = heap.first_near(Place::Cand, &mut near);
+    let mut cursor = heap.first_near(members, &mut near);
     'objects: while let Some(object) = cursor {
-        lower_all(heap, object, near, &mut found, &mut unheld, steps);
+        lower_all(heap, object, near, &mut found, members, &mut unheld, steps);
         cursor = following(heap, object, &mut near);
     }
     unheld
@@ -198,23 +213,24 @@ fn last_to_wake<B: Kind>(heap: &Heap<B>, objects: &[u64]) -> Option<(usize, Plac
     None
 }
 
-/// An object with the number 0 in this place gets the number 1, if it is a candidate, and where it
+/// An object with the number 0 in this place gets the number 1, if it is a member, and where it
 /// was set aside, the last place in the list, so that the walk comes to it. One less is then left
 /// of those with the number 0.
 #[inline(never)]
-fn wake<B: Kind>(heap: &mut Heap<B>, object: u64, place: Place, left: &mut u64)
+fn wake<B: Kind>(heap: &mut Heap<B>, object: u64, place: Place, search: Search, left: &mut u64)
+    requires search { IsSearch search }
     requires live { IsTrue ((view_of heap.old).live object) }
     requires stands { place ≡ place_of heap.old object }
     requires zero { (view_of heap.old).number object ≡ 0 }
-    requires left { zeros (view_of heap.old) ≤ left.old }
-    ensures woken { Woken (object ∷ []) (view_of heap.old) (view_of heap.new) }
-    ensures left { zeros (view_of heap.new) ≤ left.new }
+    requires left { zeros search (view_of heap.old) ≤ left.old }
+    ensures woken { Woken search (object ∷ []) (view_of heap.old) (view_of heap.new) }
+    ensures left { zeros search (view_of heap.new) ≤ left.new }
 {
-    if is_set_aside(heap, object, place) {
-        move_last(heap, object, Near::default(), Place::Cand);
+    if is_set_aside(heap, object, place, search.aside) {
+        move_last(heap, object, Near::default(), search.members);
         set_number(heap, object, 1);
         *left -= 1;
-    } else if is_candidate(heap, object, place) {
+    } else if is_member(heap, object, place, search.members) {
         set_number(heap, object, 1);
         *left -= 1;
     }
@@ -222,30 +238,32 @@ fn wake<B: Kind>(heap: &mut Heap<B>, object: u64, place: Place, left: &mut u64)
 
 /// Takes back each of these objects.
 #[inline(always)]
-fn take_back_each<B: Kind>(heap: &mut Heap<B>, objects: &[u64], left: &mut u64)
+fn take_back_each<B: Kind>(heap: &mut Heap<B>, objects: &[u64], search: Search, left: &mut u64)
+    requires search { IsSearch search }
     requires live { (o : ℕ) → Includes objects.now o → IsTrue ((view_of heap.old).live o) }
-    requires left { zeros (view_of heap.old) ≤ left.old }
-    ensures woken { Woken objects.now (view_of heap.old) (view_of heap.new) }
-    ensures left { zeros (view_of heap.new) ≤ left.new }
+    requires left { zeros search (view_of heap.old) ≤ left.old }
+    ensures woken { Woken search objects.now (view_of heap.old) (view_of heap.new) }
+    ensures left { zeros search (view_of heap.new) ≤ left.new }
 {
     let mut from = 0;
     'zeros: while let Some((at, place)) = first_to_wake(heap, &objects[from..]) {
-        wake(heap, objects[from + at], place, left);
+        wake(heap, objects[from + at], place, search, left);
         from += at + 1;
     }
 }
 
 /// Each of these objects is taken back, the last of them first.
 #[inline(always)]
-fn take_back_each_from_last<B: Kind>(heap: &mut Heap<B>, objects: &[u64], left: &mut u64)
+fn take_back_each_from_last<B: Kind>(heap: &mut Heap<B>, objects: &[u64], search: Search, left: &mut u64)
+    requires search { IsSearch search }
     requires live { (o : ℕ) → Includes objects.now o → IsTrue ((view_of heap.old).live o) }
-    requires left { zeros (view_of heap.old) ≤ left.old }
-    ensures woken { Woken objects.now (view_of heap.old) (view_of heap.new) }
-    ensures left { zeros (view_of heap.new) ≤ left.new }
+    requires left { zeros search (view_of heap.old) ≤ left.old }
+    ensures woken { Woken search objects.now (view_of heap.old) (view_of heap.new) }
+    ensures left { zeros search (view_of heap.new) ≤ left.new }
 {
     let mut end = objects.len();
     'zeros: while let Some((at, place)) = last_to_wake(heap, &objects[..end]) {
-        wake(heap, objects[at], place, left);
+        wake(heap, objects[at], place, search, left);
         end = at;
     }
 }
@@ -261,24 +279,26 @@ fn take_back_all<B: Kind, L: Ledger>(
     code: KindCode,
     near: Near,
     found: &mut [u64],
+    search: Search,
     left: &mut u64,
     steps: &mut Steps<L>,
 )
-    requires ready { IsReadyView (view_of heap.old) }
+    requires search { IsSearch search }
+    requires ready { IsReadyView search.members (view_of heap.old) }
     requires live { IsTrue ((view_of heap.old).live object) }
     requires space { ROOM ≤ length found.old }
-    requires left { zeros (view_of heap.old) ≤ left.old }
-    ensures woken { Woken (references ((view_of heap.old).entries object)) (view_of heap.old)
+    requires left { zeros search (view_of heap.old) ≤ left.old }
+    ensures woken { Woken search (references ((view_of heap.old).entries object)) (view_of heap.old)
         (view_of heap.new) }
-    ensures left { zeros (view_of heap.new) ≤ left.new }
+    ensures left { zeros search (view_of heap.new) ≤ left.new }
     ensures later { steps.old ≤ steps.new }
     ensures looks { steps.new ≤ steps.old + length ((view_of heap.old).entries object) }
     ensures space { length found.new ≡ length found.old }
 {
     match code {
-        KindCode::List => take_back_from_last(heap, object, near, found, left, steps),
-        KindCode::Tuple => take_back_from_last(heap, object, near, found, left, steps),
-        _ => take_back_from_first(heap, object, near, found, left, steps),
+        KindCode::List => take_back_from_last(heap, object, near, found, search, left, steps),
+        KindCode::Tuple => take_back_from_last(heap, object, near, found, search, left, steps),
+        _ => take_back_from_first(heap, object, near, found, search, left, steps),
     }
 }
 
@@ -289,26 +309,28 @@ fn take_back_from_last<B: Kind, L: Ledger>(
     object: u64,
     near: Near,
     found: &mut [u64],
+    search: Search,
     left: &mut u64,
     steps: &mut Steps<L>,
 )
-    requires ready { IsReadyView (view_of heap.old) }
+    requires search { IsSearch search }
+    requires ready { IsReadyView search.members (view_of heap.old) }
     requires live { IsTrue ((view_of heap.old).live object) }
     requires space { ROOM ≤ length found.old }
-    requires left { zeros (view_of heap.old) ≤ left.old }
-    ensures woken { Woken (references ((view_of heap.old).entries object)) (view_of heap.old)
+    requires left { zeros search (view_of heap.old) ≤ left.old }
+    ensures woken { Woken search (references ((view_of heap.old).entries object)) (view_of heap.old)
         (view_of heap.new) }
-    ensures left { zeros (view_of heap.new) ≤ left.new }
+    ensures left { zeros search (view_of heap.new) ≤ left.new }
     ensures later { steps.old ≤ steps.new }
     ensures looks { steps.new ≤ steps.old + length ((view_of heap.old).entries object) }
     ensures space { length found.new ≡ length found.old }
 {
     let first = heap.note_near(object, 0, near, found, steps);
     if first.next < AT_ONCE {
-        take_back_each_from_last(heap, &found[..first.references], left);
+        take_back_each_from_last(heap, &found[..first.references], search, left);
     } else {
-        take_back_behind(heap, object, near, left, steps);
-        take_back_each_from_last(heap, &found[..first.references], left);
+        take_back_behind(heap, object, near, search, left, steps);
+        take_back_each_from_last(heap, &found[..first.references], search, left);
     }
 }
 
@@ -318,15 +340,17 @@ fn take_back_behind<B: Kind, L: Ledger>(
     heap: &mut Heap<B>,
     object: u64,
     near: Near,
+    search: Search,
     left: &mut u64,
     steps: &mut Steps<L>,
 )
-    requires ready { IsReadyView (view_of heap.old) }
+    requires search { IsSearch search }
+    requires ready { IsReadyView search.members (view_of heap.old) }
     requires live { IsTrue ((view_of heap.old).live object) }
-    requires left { zeros (view_of heap.old) ≤ left.old }
+    requires left { zeros search (view_of heap.old) ≤ left.old }
     requires long { AT_ONCE ≤ length ((view_of heap.old).entries object) }
-    ensures woken { Woken (references (drop AT_ONCE ((view_of heap.old).entries object))) (view_of heap.old) (view_of heap.new) }
-    ensures left { zeros (view_of heap.new) ≤ left.new }
+    ensures woken { Woken search (references (drop AT_ONCE ((view_of heap.old).entries object))) (view_of heap.old) (view_of heap.new) }
+    ensures left { zeros search (view_of heap.new) ≤ left.new }
     ensures later { steps.old ≤ steps.new }
     ensures looks { steps.new + AT_ONCE ≤ steps.old + length ((view_of heap.old).entries object) }
 {
@@ -335,7 +359,7 @@ fn take_back_behind<B: Kind, L: Ledger>(
     'entries: while *left > 0 && blocks > 1 {
         blocks -= 1;
         let noted = heap.note_near(object, blocks * AT_ONCE, near, &mut found, steps);
-        take_back_each_from_last(heap, &found[..noted.references], left);
+        take_back_each_from_last(heap, &found[..noted.references], search, left);
     }
 }
 
@@ -345,16 +369,18 @@ fn take_back_from_first<B: Kind, L: Ledger>(
     object: u64,
     near: Near,
     found: &mut [u64],
+    search: Search,
     left: &mut u64,
     steps: &mut Steps<L>,
 )
-    requires ready { IsReadyView (view_of heap.old) }
+    requires search { IsSearch search }
+    requires ready { IsReadyView search.members (view_of heap.old) }
     requires live { IsTrue ((view_of heap.old).live object) }
     requires space { ROOM ≤ length found.old }
-    requires left { zeros (view_of heap.old) ≤ left.old }
-    ensures woken { Woken (references ((view_of heap.old).entries object)) (view_of heap.old)
+    requires left { zeros search (view_of heap.old) ≤ left.old }
+    ensures woken { Woken search (references ((view_of heap.old).entries object)) (view_of heap.old)
         (view_of heap.new) }
-    ensures left { zeros (view_of heap.new) ≤ left.new }
+    ensures left { zeros search (view_of heap.new) ≤ left.new }
     ensures later { steps.old ≤ steps.new }
     ensures looks { steps.new ≤ steps.old + length ((view_of heap.old).entries object) }
     ensures space { length found.new ≡ length found.old }
@@ -362,7 +388,7 @@ fn take_back_from_first<B: Kind, L: Ledger>(
     let mut from = 0;
     'entries: while *left > 0 {
         let noted = heap.note_near(object, from, near, found, steps);
-        take_back_each(heap, &found[..noted.references], left);
+        take_back_each(heap, &found[..noted.references], search, left);
         if noted.next - from < AT_ONCE {
             return;
         }
@@ -370,31 +396,37 @@ fn take_back_from_first<B: Kind, L: Ledger>(
     }
 }
 
-/// The candidates with a number and what they lead to stay; the others are set aside. At most
+/// The members with a number and what they lead to stay; the others are set aside. At most
 /// `left` have number 0: at 0 all have been reached, and no more references are looked at.
-fn set_aside<B: Kind, L: Ledger>(heap: &mut Heap<B>, left: u64, steps: &mut Steps<L>)
-    requires ready { IsReadyView (view_of heap.old) }
-    requires alone { IsNowhereElse (view_of heap.old) }
-    requires none { (view_of heap.old).listed Place.Back ≡ [] }
-    requires left { zeros (view_of heap.old) ≤ left }
-    ensures parted { IsParted (view_of heap.old) (view_of heap.new) }
+fn set_aside<B: Kind, L: Ledger>(
+    heap: &mut Heap<B>,
+    search: Search,
+    left: u64,
+    steps: &mut Steps<L>,
+)
+    requires search { IsSearch search }
+    requires ready { IsReadyView search.members (view_of heap.old) }
+    requires alone { IsNowhereElse search.members (view_of heap.old) }
+    requires none { (view_of heap.old).listed search.aside ≡ [] }
+    requires left { zeros search (view_of heap.old) ≤ left }
+    ensures parted { IsParted search (view_of heap.old) (view_of heap.new) }
     ensures later { steps.old ≤ steps.new }
     ensures looks { steps.new ≤ steps.old + entries_in (view_of heap.old) ((view_of heap.old).listed
-        Place.Cand) }
+        search.members) }
 {
     let mut left = left;
     let mut found = [0; ROOM];
     let mut near = Near::default();
-    let mut cursor = heap.first_near(Place::Cand, &mut near);
+    let mut cursor = heap.first_near(search.members, &mut near);
     'objects: while left > 0 {
         let Some(object) = cursor else { return };
         let here = near;
         let head = heap.head_near(object, here);
         if head.number == 0 {
             cursor = following(heap, object, &mut near);
-            move_last(heap, object, here, Place::Back);
+            move_last(heap, object, here, search.aside);
         } else {
-            take_back_all(heap, object, head.code, here, &mut found, &mut left, steps);
+            take_back_all(heap, object, head.code, here, &mut found, search, &mut left, steps);
             cursor = following(heap, object, &mut near);
         }
     }
@@ -417,50 +449,53 @@ fn exchange<B: Kind>(heap: &mut Heap<B>)
     }
 }
 
-/// Moves the candidates with a number, and what they lead to, to the kept place. `unheld` have the
-/// number 0.
-fn take_out<B: Kind, L: Ledger>(heap: &mut Heap<B>, kept: Place, unheld: u64, steps: &mut Steps<L>)
-    requires ready { IsReadyView (view_of heap.old) }
-    requires place { IsPlace kept }
-    requires apart { kept ≢ Place.Cand }
-    requires alone { IsNowhereElse (view_of heap.old) }
-    requires empty { (view_of heap.old).listed kept ≡ [] }
-    requires none { (view_of heap.old).listed Place.Back ≡ [] }
-    requires unheld { unheld ≡ zeros (view_of heap.old) }
-    ensures sifted { IsSifted kept (view_of heap.old) (view_of heap.new) }
+/// The members with a number, and what they lead to, are kept; the others become the candidates.
+/// `unheld` have the number 0.
+fn take_out<B: Kind, L: Ledger>(
+    heap: &mut Heap<B>,
+    search: Search,
+    unheld: u64,
+    steps: &mut Steps<L>,
+)
+    requires search { IsSearch search }
+    requires ready { IsReadyView search.members (view_of heap.old) }
+    requires alone { IsNowhereElse search.members (view_of heap.old) }
+    requires none { (view_of heap.old).listed search.aside ≡ [] }
+    requires unheld { unheld ≡ zeros_at search.members (view_of heap.old) }
+    ensures sifted { IsSifted search.members (view_of heap.old) (view_of heap.new) }
     ensures later { steps.old ≤ steps.new }
     ensures looks { steps.new ≤ steps.old + entries_in (view_of heap.old) ((view_of heap.old).listed
-        Place.Cand) }
+        search.members) }
 {
-    if unheld < heap.size(Place::Cand) {
-        set_aside(heap, unheld, steps);
-        match kept {
-            Place::Back => exchange(heap),
-            _ => {
-                move_all(heap, Place::Cand, kept);
-                move_all(heap, Place::Back, Place::Cand);
-            }
+    if unheld < heap.size(search.members) {
+        set_aside(heap, search, unheld, steps);
+        match search.members {
+            Place::Cand => exchange(heap),
+            _ => {}
+        }
+    } else {
+        match search.members {
+            Place::Cand => {}
+            _ => move_all(heap, search.members, search.aside),
         }
     }
 }
 
-/// The candidates that nothing outside leads to stay; the others go to the kept place.
-fn sift<B: Kind, L: Ledger>(heap: &mut Heap<B>, kept: Place, steps: &mut Steps<L>)
-    requires place { IsPlace kept }
-    requires apart { kept ≢ Place.Cand }
-    requires empty { list_at heap.old kept ≡ [] }
-    requires none { list_at heap.old Place.Back ≡ [] }
-    ensures sifted { IsSieved kept (view_of heap.old) (view_of heap.new) }
+/// The members that nothing outside leads to become the candidates; the others are kept.
+fn sift<B: Kind, L: Ledger>(heap: &mut Heap<B>, search: Search, steps: &mut Steps<L>)
+    requires search { IsSearch search }
+    requires none { list_at heap.old search.aside ≡ [] }
+    ensures sifted { IsSieved search.members (view_of heap.old) (view_of heap.new) }
     ensures listed { IsListed heap.new }
-    ensures least { steps.old + entries_in (view_of heap.old) (list_at heap.old Place.Cand) ≤
+    ensures least { steps.old + entries_in (view_of heap.old) (list_at heap.old search.members) ≤
         steps.new }
     ensures most { steps.new ≤ steps.old + 2 * entries_in (view_of heap.old)
-        (list_at heap.old Place.Cand) }
+        (list_at heap.old search.members) }
 {
     heap.sound();
-    let unheld = copy(heap);
-    let unheld = subtract(heap, unheld, steps);
-    take_out(heap, kept, unheld, steps);
+    let unheld = copy(heap, search.members);
+    let unheld = subtract(heap, search.members, unheld, steps);
+    take_out(heap, search, unheld, steps);
     heap.sound();
 }
 
@@ -495,10 +530,7 @@ pub fn split<B: Kind, L: Ledger>(heap: &mut Heap<B>, from: Place, steps: &mut St
 {
     heap.sound();
     match from {
-        Place::Cand => sift(heap, Place::Back, steps),
-        _ => {
-            heap.merge(from, Place::Cand);
-            sift(heap, from, steps);
-        }
+        Place::Cand => sift(heap, Search { members: from, aside: Place::Back }, steps),
+        _ => sift(heap, Search { members: from, aside: Place::Cand }, steps),
     }
 }

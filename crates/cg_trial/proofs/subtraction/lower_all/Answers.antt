@@ -19,26 +19,26 @@ note_near-noted-requires-clause-within g c = omega (
 
 pub lower_each-requires-clause-live : goal.lower_each-requires-clause-live
 lower_each-requires-clause-live g c = λ p h.
-    next_live (view_of c.args.heap.now) (view_of c.entries.heap) c.args.object c.entries.from c.requires.ready c.requires.live c.entries.invariant.lowering.lowered.rest.same p
+    next_live c.args.members (view_of c.args.heap.now) (view_of c.entries.heap) c.args.object c.entries.from c.requires.ready c.requires.live c.entries.invariant.lowering.lowered.rest.same p
     (subst (λ (xs : List ℕ). Includes xs p) c.note_near-noted.ensures.references h)
 
 pub lower_each-requires-clause-room : goal.lower_each-requires-clause-room
 lower_each-requires-clause-room g c = λ p h.
     subst (λ (xs : List ℕ). occurrences p xs ≤ (view_of c.entries.heap).number p) (sym c.note_near-noted.ensures.references)
-    (lowering_room c.args.object (view_of c.args.heap.now) (view_of c.entries.heap) c.entries.from c.entries.invariant.lowering c.requires.room p h)
+    (lowering_room c.args.members c.args.object (view_of c.args.heap.now) (view_of c.entries.heap) c.entries.from c.entries.invariant.lowering c.requires.room p h)
 
 pub returns-then-noted-from-lt-AT_ONCE-clause-lowered : goal.returns-then-noted-from-lt-AT_ONCE-clause-lowered
 returns-then-noted-from-lt-AT_ONCE-clause-lowered g c =
-    lowering_all c.args.object (view_of c.args.heap.now) (view_of c.lower_each.new.heap) c.note_near-noted.result.next
+    lowering_all c.args.members c.args.object (view_of c.args.heap.now) (view_of c.lower_each.new.heap) c.note_near-noted.result.next
     (few_last c.args.object (view_of c.args.heap.now) (view_of c.entries.heap) c.entries.from c.note_near-noted.result.next c.entries.invariant.lowering.within
     c.entries.invariant.lowering.lowered.rest.same c.note_near-noted.ensures.next (omega (
       arith,
       c.note_near-noted.ensures.next,
       c.if-noted-from-lt-AT_ONCE.true,
     )))
-    (lowering_more c.args.object (view_of c.args.heap.now) (view_of c.entries.heap) (view_of c.lower_each.new.heap) c.entries.from c.note_near-noted.result.next
+    (lowering_more c.args.members c.args.object (view_of c.args.heap.now) (view_of c.entries.heap) (view_of c.lower_each.new.heap) c.entries.from c.note_near-noted.result.next
     c.entries.invariant.lowering c.note_near-noted.ensures.next
-    (subst (λ (xs : List ℕ). Lowered xs (view_of c.entries.heap) (view_of c.lower_each.new.heap)) c.note_near-noted.ensures.references c.lower_each.ensures.lowered))
+    (subst (λ (xs : List ℕ). Lowered c.args.members xs (view_of c.entries.heap) (view_of c.lower_each.new.heap)) c.note_near-noted.ensures.references c.lower_each.ensures.lowered))
 
 pub returns-then-noted-from-lt-AT_ONCE-clause-looks : goal.returns-then-noted-from-lt-AT_ONCE-clause-looks
 returns-then-noted-from-lt-AT_ONCE-clause-looks g c =
@@ -57,20 +57,20 @@ returns-then-noted-from-lt-AT_ONCE-clause-looks g c =
 
 pub entries-smaller : goal.entries-smaller
 entries-smaller g c =
-    let so = lowering_more c.args.object (view_of c.args.heap.now) (view_of c.entries.heap) (view_of c.lower_each.new.heap) c.entries.from
+    let so = lowering_more c.args.members c.args.object (view_of c.args.heap.now) (view_of c.entries.heap) (view_of c.lower_each.new.heap) c.entries.from
     c.note_near-noted.result.next c.entries.invariant.lowering c.note_near-noted.ensures.next
-    (subst (λ (xs : List ℕ). Lowered xs (view_of c.entries.heap) (view_of c.lower_each.new.heap)) c.note_near-noted.ensures.references c.lower_each.ensures.lowered) in
+    (subst (λ (xs : List ℕ). Lowered c.args.members xs (view_of c.entries.heap) (view_of c.lower_each.new.heap)) c.note_near-noted.ensures.references c.lower_each.ensures.lowered) in
     omega (arith, so.within, c.if-noted-from-lt-AT_ONCE.false, c.note_near-noted.ensures.next)
 
 pub entries-preserved : goal.entries-preserved
 entries-preserved g c = record {
-  lowering = lowering_more c.args.object (view_of c.args.heap.now) (view_of c.entries.heap) (view_of c.lower_each.new.heap) c.entries.from
+  lowering = lowering_more c.args.members c.args.object (view_of c.args.heap.now) (view_of c.entries.heap) (view_of c.lower_each.new.heap) c.entries.from
       c.note_near-noted.result.next c.entries.invariant.lowering c.note_near-noted.ensures.next
-      (subst (λ (xs : List ℕ). Lowered xs (view_of c.entries.heap) (view_of c.lower_each.new.heap)) c.note_near-noted.ensures.references c.lower_each.ensures.lowered);
+      (subst (λ (xs : List ℕ). Lowered c.args.members xs (view_of c.entries.heap) (view_of c.lower_each.new.heap)) c.note_near-noted.ensures.references c.lower_each.ensures.lowered);
   unheld = c.lower_each.ensures.unheld;
   looks = omega (arith, c.entries.invariant.looks, c.note_near-noted.ensures.steps, c.note_near-noted.ensures.next);
   space = omega (arith, c.note_near-noted.ensures.room, c.entries.invariant.space);
 }
 
 pub lower_each-requires-clause-few : goal.lower_each-requires-clause-few
-lower_each-requires-clause-few g c = few_same (view_of c.args.heap.now) (view_of c.entries.heap) c.entries.invariant.lowering.lowered.rest c.requires.few
+lower_each-requires-clause-few g c = few_same c.args.members (view_of c.args.heap.now) (view_of c.entries.heap) c.entries.invariant.lowering.lowered.rest c.requires.few

@@ -16,11 +16,11 @@ wake-requires-clause-live g c =
 
 pub zeros-preserved : goal.zeros-preserved
 zeros-preserved g c = record {
-  woken = woken_before c.args.objects.now c.zeros.end c.in-Some.at (view_of c.args.heap.now) (view_of c.zeros.heap) (view_of c.wake.new.heap)
+  woken = woken_before c.args.search c.args.objects.now c.zeros.end c.in-Some.at (view_of c.args.heap.now) (view_of c.zeros.heap) (view_of c.wake.new.heap)
       c.zeros.invariant.within c.zeros.invariant.woken c.in-Some.ensures.last c.wake.ensures.woken;
   within = omega (arith, c.in-Some.ensures.last.within, length-take c.zeros.end c.args.objects.now);
   left = c.wake.ensures.left;
 }
 
 pub returns-clause-woken : goal.returns-clause-woken
-returns-clause-woken g c = woken_front c.args.objects.now c.zeros.end (view_of c.args.heap.now) (view_of c.zeros.heap) c.zeros.invariant.woken (c.in_default.ensures.none refl)
+returns-clause-woken g c = woken_front c.args.search c.args.objects.now c.zeros.end (view_of c.args.heap.now) (view_of c.zeros.heap) c.zeros.invariant.woken (c.in_default.ensures.none refl)
