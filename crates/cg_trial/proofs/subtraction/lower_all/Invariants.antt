@@ -6,8 +6,8 @@ use Rattle.cg_trial.proofs.subtraction.lower_all.Given as goal
 
 abbrev pub invariant-entries : goal.invariant-entries
 invariant-entries g l = record {
-  lowering : Lowering l.members l.object (view_of l.fn.heap) (view_of l.heap) l.from;
-  unheld : l.unheld ≡ zeros_at l.members (view_of l.heap);
+  lowering : Lowering l.fn.members l.object (view_of l.fn.heap) (view_of l.heap) l.from;
+  unheld : l.unheld ≡ zeros_at l.fn.members (view_of l.heap);
   looks : l.steps ≡ l.fn.steps + l.from;
   space : length l.found ≡ length l.fn.found;
 }

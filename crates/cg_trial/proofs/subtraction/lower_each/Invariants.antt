@@ -5,10 +5,10 @@ use Rattle.cg_trial.proofs.subtraction.lower_each.Given as goal
 
 abbrev pub invariant-runs : goal.invariant-runs
 invariant-runs g l = record {
-  lowered : Lowered l.members (take (l.next - 1) l.objects) (view_of l.fn.heap) (view_of l.heap);
+  lowered : Lowered l.fn.members (take (l.next - 1) l.objects) (view_of l.fn.heap) (view_of l.heap);
   within : l.next ≤ length l.objects + 1;
   behind : 1 ≤ l.next;
-  unheld : l.unheld ≡ zeros_at l.members (view_of l.heap);
+  unheld : l.unheld ≡ zeros_at l.fn.members (view_of l.heap);
 }
 
 abbrev pub decreases-runs : goal.decreases-runs

@@ -6,9 +6,9 @@ use Rattle.cg_trial.proofs.subtraction.set_aside.Given as goal
 
 abbrev pub invariant-objects : goal.invariant-objects
 invariant-objects g l = record {
-  sifting : Sifting l.search (view_of l.fn.heap) (view_of l.heap) l.cursor l.fn.steps l.steps;
-  left : zeros l.search (view_of l.heap) ≤ l.left;
+  sifting : Sifting l.fn.search (view_of l.fn.heap) (view_of l.heap) l.cursor l.fn.steps l.steps;
+  left : zeros l.fn.search (view_of l.heap) ≤ l.left;
 }
 
 abbrev pub decreases-objects : goal.decreases-objects
-decreases-objects g l = weight l.search (view_of l.heap) l.cursor
+decreases-objects g l = weight l.fn.search (view_of l.heap) l.cursor

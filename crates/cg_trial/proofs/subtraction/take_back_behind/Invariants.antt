@@ -6,8 +6,8 @@ use Rattle.cg_trial.proofs.subtraction.take_back_behind.Given as goal
 
 abbrev pub invariant-entries : goal.invariant-entries
 invariant-entries g l = record {
-  waking : WakingBack l.search l.object (view_of l.fn.heap) (view_of l.heap) l.blocks l.fn.steps l.steps;
-  left : zeros l.search (view_of l.heap) ≤ l.left;
+  waking : WakingBack l.fn.search l.object (view_of l.fn.heap) (view_of l.heap) l.blocks l.fn.steps l.steps;
+  left : zeros l.fn.search (view_of l.heap) ≤ l.left;
   some : 1 ≤ l.blocks;
 }
 

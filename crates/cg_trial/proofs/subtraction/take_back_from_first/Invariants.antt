@@ -6,9 +6,9 @@ use Rattle.cg_trial.proofs.subtraction.take_back_from_first.Given as goal
 
 abbrev pub invariant-entries : goal.invariant-entries
 invariant-entries g l = record {
-  waking : Waking l.search l.object (view_of l.fn.heap) (view_of l.heap) l.from;
+  waking : Waking l.fn.search l.object (view_of l.fn.heap) (view_of l.heap) l.from;
   looks : l.steps ≡ l.fn.steps + l.from;
-  left : zeros l.search (view_of l.heap) ≤ l.left;
+  left : zeros l.fn.search (view_of l.heap) ≤ l.left;
   space : length l.found ≡ length l.fn.found;
 }
 
