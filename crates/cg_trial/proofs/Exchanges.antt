@@ -144,14 +144,16 @@ nowhere : (members : Place) (v : View) → ((o : ℕ) → Includes (v.listed mem
 nowhere members v zero o (starts n h) = n (zero o h)
 nowhere members v zero o (goes {o = p} w r h) = nowhere members v zero p w
 
-pub none_reached : (v : View) → v.listed Back ≡ [] → ((o : ℕ) → Includes (v.listed Cand) o → v.number o ≡ 0) → IsSifted Cand v v
-none_reached v empty zero = record {
-  same = same_itself v;
-  others = λ q h k. refl;
-  sums = λ f. omega (arith, ap (sum_by f) empty);
-  reached = λ o h. absurd (subst (λ (xs : List ℕ). Includes xs o) empty h);
-  all_reached = λ o w. absurd (nowhere Cand v zero o w);
-}
+pub none_reached : (s : Search) → IsSearch s → s.members ≡ Cand → (v : View) → v.listed s.aside ≡ [] → ((o : ℕ) → Includes (v.listed s.members) o → v.number o ≡ 0) → IsSifted s.members v v
+none_reached s is =
+    by_search (λ (t : Search). t.members ≡ Cand → (v : View) → v.listed t.aside ≡ [] → ((o : ℕ) → Includes (v.listed t.members) o → v.number o ≡ 0) → IsSifted t.members v v)
+    (λ e v empty zero. record {
+      same = same_itself v;
+      others = λ q h k. refl;
+      sums = λ f. omega (arith, ap (sum_by f) empty);
+      reached = λ o h. absurd (subst (λ (xs : List ℕ). Includes xs o) empty h);
+      all_reached = λ o w. absurd (nowhere Cand v zero o w);
+    }) (λ i few e. absurd (cc)) s is
 
 -- all members of a generation become the candidates
 pub none_kept : (s : Search) → IsSearch s → s.members ≢ Cand → (v new : View) → v.listed s.aside ≡ [] → ((o : ℕ) → Includes (v.listed s.members) o → v.number o ≡ 0)
@@ -165,19 +167,6 @@ none_kept s is =
       sums = λ f. omega (arith, ap (sum_by f) (merged.joined ∙ ap (λ (xs : List ℕ). xs ++ v.listed (Gen i)) empty), ap (sum_by f) merged.emptied);
       reached = λ o h. absurd (subst (λ (xs : List ℕ). Includes xs o) merged.emptied h);
       all_reached = λ o w. absurd (nowhere (Gen i) v zero o w);
-    }) s is
-
--- those set aside are the candidates
-pub sifted_parted : (s : Search) → IsSearch s → s.members ≢ Cand → (old new : View) → IsParted s old new → IsSifted s.members old new
-sifted_parted s is =
-    by_search (λ (t : Search). t.members ≢ Cand → (old new : View) → IsParted t old new → IsSifted t.members old new)
-    (λ differ. absurd (differ refl))
-    (λ i few differ old new parted. record {
-      same = parted.same;
-      others = λ q h k. parted.others q k h;
-      sums = λ f. omega (arith, parted.sums f);
-      reached = parted.reached;
-      all_reached = parted.all_reached;
     }) s is
 
 -- those set aside and the other candidates have to exchange places
