@@ -1,7 +1,7 @@
 -- A search is one of the candidates or of a generation.
 use Rattle.std.proofs.Common.{◌≡◌, ◌≢◌, sym, subst, ℕ, ◌≤◌, arith}
 use Rattle.cg_value.specs.declared.Place.{Place}
-use Rattle.cg_value.specs.declared.Place.TheVariants.{Gen, Cand, Back}
+use Rattle.cg_value.specs.declared.Place.TheVariants.{Gen, Cand}
 use Rattle.cg_arena.specs.Nodes.{IsPlace}
 use Rattle.cg_trial.specs.declared.subtraction.Search.{Search}
 use Rattle.cg_trial.specs.Split.{IsSplitPlace}

@@ -1,5 +1,5 @@
 -- A walk from the objects that kept a number is a path from outside.
-use Rattle.std.proofs.Common.{◌≡◌, refl, sym, ◌∙◌, ap, subst, ℕ, ◌+◌, ◌<◌, ◌≤◌, inl, inr, List, [], ◌∷◌, ◌++◌, length, map, arith}
+use Rattle.std.proofs.Common.{◌≡◌, refl, sym, ◌∙◌, ap, subst, ℕ, ◌+◌, ◌≤◌, inl, inr, List, [], ◌∷◌, ◌++◌, length, map, arith}
 use Rattle.std.specs.Prelude.{sum_by, flat_map}
 use Rattle.cg_value.specs.declared.Place.{Place}
 use Rattle.cg_value.specs.declared.Entry.{Entry}
@@ -8,7 +8,7 @@ use Rattle.cg_graph.specs.Holdings.{occurrences, entry_holdings}
 use Rattle.cg_trial.specs.View.{View, IsSame, IsSameButNumbers, Lowered, held_by}
 use Rattle.cg_graph.specs.Value.{references}
 use Rattle.cg_graph.specs.declared.Edge.{Edge}
-use Rattle.cg_graph.specs.Reach.{edges, Reach, first, next}
+use Rattle.cg_graph.specs.Reach.{edges, first, next}
 use Rattle.cg_trial.specs.Paths.{graph_in, Reached, entries_in}
 use Rattle.cg_trial.specs.Sift.{Walk, starts, goes, IsNowhereElse, IsSifted, IsSieved}
 use Rattle.cg_graph.proofs.Members.{Includes-map, Includes-map_cases, either, Includes-append_cases, Includes-append_left, Includes-append_right}

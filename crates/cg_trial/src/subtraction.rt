@@ -254,7 +254,12 @@ fn take_back_each<B: Kind>(heap: &mut Heap<B>, objects: &[u64], search: Search, 
 
 /// Each of these objects is taken back, the last of them first.
 #[inline(always)]
-fn take_back_each_from_last<B: Kind>(heap: &mut Heap<B>, objects: &[u64], search: Search, left: &mut u64)
+fn take_back_each_from_last<B: Kind>(
+    heap: &mut Heap<B>,
+    objects: &[u64],
+    search: Search,
+    left: &mut u64,
+)
     requires search { IsSearch search }
     requires live { (o : ℕ) → Includes objects.now o → IsTrue ((view_of heap.old).live o) }
     requires left { zeros search (view_of heap.old) ≤ left.old }
@@ -426,7 +431,9 @@ fn set_aside<B: Kind, L: Ledger>(
             cursor = following(heap, object, &mut near);
             move_last(heap, object, here, search.aside);
         } else {
-            take_back_all(heap, object, head.code, here, &mut found, search, &mut left, steps);
+            take_back_all(
+                heap, object, head.code, here, &mut found, search, &mut left, steps,
+            );
             cursor = following(heap, object, &mut near);
         }
     }
@@ -530,7 +537,21 @@ pub fn split<B: Kind, L: Ledger>(heap: &mut Heap<B>, from: Place, steps: &mut St
 {
     heap.sound();
     match from {
-        Place::Cand => sift(heap, Search { members: from, aside: Place::Back }, steps),
-        _ => sift(heap, Search { members: from, aside: Place::Cand }, steps),
+        Place::Cand => sift(
+            heap,
+            Search {
+                members: from,
+                aside: Place::Back,
+            },
+            steps,
+        ),
+        _ => sift(
+            heap,
+            Search {
+                members: from,
+                aside: Place::Cand,
+            },
+            steps,
+        ),
     }
 }

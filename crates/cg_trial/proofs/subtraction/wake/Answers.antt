@@ -14,8 +14,12 @@ pub set_number-requires-clause-live : goal.set_number-requires-clause-live
 set_number-requires-clause-live g c = live_same (view_of c.args.heap.now) (view_of c.move_last.new.heap) c.args.object c.move_last.ensures.same c.requires.live
 
 pub set_number-requires-clause-place : goal.set_number-requires-clause-place
-set_number-requires-clause-place g c = (c.args.search.members, c.requires.search.0, subst (λ (xs : List ℕ). Includes xs c.args.object) (sym c.move_last.ensures.last)
-    (Includes-append_right (without_serial c.args.object (list_at c.args.heap.now c.args.search.members)) (c.args.object ∷ []) c.args.object (inl refl)))
+set_number-requires-clause-place g c = (
+  c.args.search.members,
+  c.requires.search.0,
+  subst (λ (xs : List ℕ). Includes xs c.args.object) (sym c.move_last.ensures.last)
+      (Includes-append_right (without_serial c.args.object (list_at c.args.heap.now c.args.search.members)) (c.args.object ∷ []) c.args.object (inl refl)),
+)
 
 pub overflow_sub-left : goal.overflow_sub-left
 overflow_sub-left g c = omega (
