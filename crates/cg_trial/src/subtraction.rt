@@ -9,7 +9,7 @@ ghost use Rattle.cg_arena.specs.Nodes.{IsPlace};
 ghost use Rattle.cg_heap.specs.Calls.{IsListed};
 ghost use Rattle.cg_trial.specs.View.{view_of, IsReadyView, IsSameButNumbers, Lowered, held_by};
 ghost use Rattle.cg_trial.specs.Paths.{entries_in};
-ghost use Rattle.cg_trial.specs.Sift.{IsSearch, Woken, IsFirstZero, IsLastZero, HasFewMembers, IsNowhereElse, IsParted, IsTwofold, IsExchanged, IsSifted, IsSieved, zeros, zeros_at};
+ghost use Rattle.cg_trial.specs.Sift.{IsSearch, aside_place, Woken, IsFirstZero, IsLastZero, HasFewMembers, IsNowhereElse, IsParted, IsTwofold, IsExchanged, IsSifted, IsSieved, zeros, zeros_at};
 ghost use Rattle.cg_trial.specs.Split.{IsSplitPlace, kept_place, entry_number_at, IsSameButPlaces};
 
 use crate::candidates::{
@@ -489,20 +489,21 @@ fn take_out<B: Kind, L: Ledger>(
 }
 
 /// The members that nothing outside leads to become the candidates; the others are kept.
-fn sift<B: Kind, L: Ledger>(heap: &mut Heap<B>, search: Search, steps: &mut Steps<L>)
-    requires search { IsSearch search }
-    requires none { list_at heap.old search.aside ≡ [] }
-    ensures sifted { IsSieved search.members (view_of heap.old) (view_of heap.new) }
+fn sift<B: Kind, L: Ledger>(heap: &mut Heap<B>, members: Place, aside: Place, steps: &mut Steps<L>)
+    requires members { IsSplitPlace members }
+    requires aside { aside ≡ aside_place members }
+    requires none { list_at heap.old aside ≡ [] }
+    ensures sifted { IsSieved members (view_of heap.old) (view_of heap.new) }
     ensures listed { IsListed heap.new }
-    ensures least { steps.old + entries_in (view_of heap.old) (list_at heap.old search.members) ≤
+    ensures least { steps.old + entries_in (view_of heap.old) (list_at heap.old members) ≤
         steps.new }
     ensures most { steps.new ≤ steps.old + 2 * entries_in (view_of heap.old)
-        (list_at heap.old search.members) }
+        (list_at heap.old members) }
 {
     heap.sound();
-    let unheld = copy(heap, search.members);
-    let unheld = subtract(heap, search.members, unheld, steps);
-    take_out(heap, search, unheld, steps);
+    let unheld = copy(heap, members);
+    let unheld = subtract(heap, members, unheld, steps);
+    take_out(heap, Search { members, aside }, unheld, steps);
     heap.sound();
 }
 
@@ -537,21 +538,7 @@ pub fn split<B: Kind, L: Ledger>(heap: &mut Heap<B>, from: Place, steps: &mut St
 {
     heap.sound();
     match from {
-        Place::Cand => sift(
-            heap,
-            Search {
-                members: from,
-                aside: Place::Back,
-            },
-            steps,
-        ),
-        _ => sift(
-            heap,
-            Search {
-                members: from,
-                aside: Place::Cand,
-            },
-            steps,
-        ),
+        Place::Cand => sift(heap, from, Place::Back, steps),
+        _ => sift(heap, from, Place::Cand, steps),
     }
 }
