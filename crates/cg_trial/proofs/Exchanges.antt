@@ -169,7 +169,7 @@ none_kept s is =
       all_reached = λ o w. absurd (nowhere (Gen i) v zero o w);
     }) s is
 
--- those set aside and the other candidates have to exchange places
+-- a search among the candidates parts `Cand` and `Back`
 pub parted_candidates : (s : Search) → IsSearch s → s.members ≡ Cand → (old mid : View) → IsParted s old mid → IsParted candidate_search old mid
 parted_candidates s is =
     by_search (λ (t : Search). t.members ≡ Cand → (old mid : View) → IsParted t old mid → IsParted candidate_search old mid) (λ e old mid parted. parted) (λ i few e. absurd (cc)) s is

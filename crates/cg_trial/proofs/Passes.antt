@@ -74,7 +74,7 @@ pub at_end : (xs : List ℕ) (front back : List ℕ) → IsAt xs None front back
 at_end xs front [] at = at.parts ∙ append-nil front
 at_end xs front (x ∷ back) at = absurd (let e : None ≡ Some x = at.at in cc)
 
--- the object at the cursor is a live candidate
+-- the object at the cursor is in the list
 pub stands : (xs : List ℕ) (o : ℕ) (front back : List ℕ) → IsAt xs (Some o) front back → Includes xs o
 stands xs o front back at =
     let head = head_is back o at.at in

@@ -10,6 +10,7 @@ use Rattle.cg_trial.specs.Sift.{IsSearch, aside_place, candidate_search}
 abbrev pub generation_search : ℕ → Search
 generation_search i = record { members = Gen i; aside = Cand }
 
+-- a fact on any search, by the two cases
 pub by_search : (P : Search → Type 0) → P candidate_search → ((i : ℕ) → i ≤ 2 → P (generation_search i)) → (s : Search) → IsSearch s → P s
 by_search P candidates generation s is = known s.members s.aside is.0 is.1
   where

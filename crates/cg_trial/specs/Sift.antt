@@ -11,11 +11,12 @@ use Rattle.cg_trial.specs.View.{View, IsSame}
 use Rattle.cg_trial.specs.Paths.{Reached}
 use Rattle.cg_trial.specs.Split.{IsSplitPlace, kept_place}
 
--- A generation is searched with `Cand` for what is set aside, the candidates with `Back`.
+-- what looks unreachable in a generation is set aside in `Cand`, among the candidates in `Back`
 abbrev pub aside_place : Place → Place
 aside_place Cand = Back
 aside_place place = Cand
 
+-- a generation or the candidates, and where they are set aside
 abbrev pub IsSearch : Search → Type 0
 IsSearch s = IsSplitPlace s.members × (s.aside ≡ aside_place s.members)
 
@@ -47,7 +48,7 @@ zeros_at place v = sum_by (is_zero v) (v.listed place)
 abbrev pub zeros : Search → View → ℕ
 zeros s v = both s (is_zero v) v
 
--- they are fewer than 2^64
+-- the members are fewer than 2^64
 abbrev pub HasFewMembers : Place → View → Type 0
 HasFewMembers members v = length (v.listed members) < 2 ^ 64
 

@@ -50,7 +50,7 @@ pub fn following<B: Kind>(heap: &Heap<B>, object: u64, near: &mut Near) -> Optio
     heap.next_near(object, near)
 }
 
-/// Sets the number of an object of a generation or of a candidate.
+/// Sets the number of a candidate or an object of a generation.
 #[inline(always)]
 pub fn set_number<B: Kind>(heap: &mut Heap<B>, object: u64, number: u32)
     requires live { IsTrue ((view_of heap.old).live object) }

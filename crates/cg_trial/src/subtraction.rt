@@ -122,8 +122,8 @@ fn lower_all<B: Kind, L: Ledger>(
     requires space { ROOM ≤ length found.old }
     requires few { HasFewMembers members (view_of heap.old) }
     requires unheld { unheld.old ≡ zeros_at members (view_of heap.old) }
-    ensures lowered { Lowered members (references ((view_of heap.old).entries object)) (view_of heap.old)
-        (view_of heap.new) }
+    ensures lowered { Lowered members (references ((view_of heap.old).entries object))
+        (view_of heap.old) (view_of heap.new) }
     ensures unheld { unheld.new ≡ zeros_at members (view_of heap.new) }
     ensures looks { steps.new ≡ steps.old + length ((view_of heap.old).entries object) }
     ensures space { length found.new ≡ length found.old }
@@ -153,8 +153,8 @@ fn subtract<B: Kind, L: Ledger>(
         → occurrences o (held_by (view_of heap.old) ((view_of heap.old).listed members)) ≤
         (view_of heap.old).number o }
     requires unheld { unheld ≡ zeros_at members (view_of heap.old) }
-    ensures lowered { Lowered members (held_by (view_of heap.old) ((view_of heap.old).listed members))
-        (view_of heap.old) (view_of heap.new) }
+    ensures lowered { Lowered members (held_by (view_of heap.old) ((view_of heap.old).listed
+        members)) (view_of heap.old) (view_of heap.new) }
     ensures unheld { result ≡ zeros_at members (view_of heap.new) }
     ensures looks { steps.new ≡ steps.old + entries_in (view_of heap.old) ((view_of heap.old).listed
         members) }
@@ -307,8 +307,8 @@ fn take_back_all<B: Kind, L: Ledger>(
     }
 }
 
-/// The same, from the last entry to the first. The entries are looked at in blocks that are counted from the first, so that
-/// none is looked at twice; mostly there is one.
+/// The same, from the last entry to the first. The entries are looked at in blocks that are counted
+/// from the first, so that none is looked at twice; mostly there is one.
 fn take_back_from_last<B: Kind, L: Ledger>(
     heap: &mut Heap<B>,
     object: u64,
@@ -354,7 +354,8 @@ fn take_back_behind<B: Kind, L: Ledger>(
     requires live { IsTrue ((view_of heap.old).live object) }
     requires left { zeros search (view_of heap.old) ≤ left.old }
     requires long { AT_ONCE ≤ length ((view_of heap.old).entries object) }
-    ensures woken { Woken search (references (drop AT_ONCE ((view_of heap.old).entries object))) (view_of heap.old) (view_of heap.new) }
+    ensures woken { Woken search (references (drop AT_ONCE ((view_of heap.old).entries object)))
+        (view_of heap.old) (view_of heap.new) }
     ensures left { zeros search (view_of heap.new) ≤ left.new }
     ensures later { steps.old ≤ steps.new }
     ensures looks { steps.new + AT_ONCE ≤ steps.old + length ((view_of heap.old).entries object) }
