@@ -1,5 +1,5 @@
 -- The line of each event, as bytes, and the text of a run. (Ours; docs/SCRIPT.md has them all.)
-use Rattle.std.specs.Prelude.{ℕ, ◌<◌, ◌≤◌, length, Bool, true, false, List, [], ◌∷◌, ◌++◌, codes, decimal, unwrap_or, slice_get, flat_map}
+use Rattle.std.specs.Prelude.{ℕ, ◌+◌, ◌<◌, ◌≤◌, length, Bool, true, false, List, [], ◌∷◌, ◌++◌, codes, decimal, unwrap_or, slice_get, flat_map}
 use Rattle.std.specs.Fmt.{signed_decimal}
 use Rattle.cg_value.specs.declared.Val.{Val}
 use Rattle.cg_value.specs.declared.Val.TheVariants.{None as Nothing, Int, Str, Ref}
@@ -10,6 +10,7 @@ use Rattle.cg_machine.specs.declared.event.FrameSort.{FrameSort}
 use Rattle.cg_machine.specs.declared.event.FrameSort.TheVariants.{Del, Legacy, Callback, Call}
 use Rattle.cg_machine.specs.declared.event.Event.{Event}
 use Rattle.cg_machine.specs.declared.event.Event.TheVariants.{Made, Enter, Leave, Cleared, Free, Alive, GcStart, GcCollectable, GcUncollectable, GcSaved, GcStop, Collected, Value, RefCount, Tracked, Finalized, Referent, Referrer, Listed, Held, Via, Unreachable, Count, Gens, Refused, BudgetSpent, Left, End}
+use Rattle.cg_machine.specs.declared.line.TheConstants.{LONGEST_LINE, ROOM}
 use Rattle.cg_machine.specs.Run.{StepTaken, events_of}
 
 -- the word of a kind
@@ -94,6 +95,10 @@ IsPrintable names event = Unit {0}
 -- a line with its line feed
 abbrev pub line : List (List ℕ) → Event → List ℕ
 line names event = words_of names event ++ 10 ∷ []
+
+-- A text has room for one more line, however long.
+abbrev pub HasRoom : List ℕ → Type 0
+HasRoom text = length text + LONGEST_LINE ≤ ROOM
 
 -- the text of a run: the lines of its events, joined
 abbrev pub text_of : Script → List StepTaken → List ℕ

@@ -11,4 +11,4 @@ mod event;
 mod line;
 
 pub use event::{Event, FrameSort, FrameSpec};
-pub use line::{LineText, line_of, push_line};
+pub use line::{LONGEST_LINE, LineText, line_of, push_line};

@@ -1,6 +1,6 @@
 //! The line of each event.
 ghost use Rattle.std.specs.Prelude.{◌≡◌, ◌+◌, ◌≤◌, ◌++◌, [], length, codes, decimal};
-ghost use Rattle.cg_machine.specs.Lines.{line, words_of, IsPrintable, IsPrintableValue, kind_text, sort_text, yes_or_no, serial_text, number_text, value_text};
+ghost use Rattle.cg_machine.specs.Lines.{line, words_of, HasRoom, IsPrintable, IsPrintableValue, kind_text, sort_text, yes_or_no, serial_text, number_text, value_text};
 
 use crate::event::{Event, FrameSort};
 use arrayvec::ArrayString;
@@ -8,9 +8,13 @@ use cg_value::{KindCode, Names, Val};
 use itoa::Buffer;
 
 /// The longest line in bytes: the text of a value has at most 1,024.
-const ROOM: usize = 1100;
+pub const LONGEST_LINE: usize = 1100;
 
-/// Room for the line of an event.
+/// With less room than for one more line, a text has more bytes than the buffer of a `BufWriter`,
+/// which then passes them on without a copy.
+const ROOM: usize = 9300;
+
+/// Room for the lines of some events.
 pub type LineText = ArrayString<ROOM>;
 
 /// The line of an event, with its line feed. A text that it prints must be one of `names`, with at
@@ -24,24 +28,23 @@ pub fn line_of(event: &Event, names: &Names) -> LineText
     text
 }
 
-/// Writes the line that `line_of` answers into an empty text, which saves a copy.
+/// Appends the line that `line_of` answers to a text that has room for the longest.
 #[inline(always)]
 pub fn push_line(text: &mut LineText, event: &Event, names: &Names)
-    requires empty { text.old.bytes ≡ [] }
+    requires room { HasRoom text.old.bytes }
     requires printable { IsPrintable names.now event.now }
-    ensures { text.new.bytes ≡ line names.now event.now }
+    ensures { text.new.bytes ≡ text.old.bytes ++ line names.now event.now }
 {
     push_words(text, event, names);
     text.push_str("\n");
 }
 
-/// Writes a line without its line feed into an empty text. One call for each form, all into the
-/// same buffer.
-fn push_words(text: &mut ArrayString<ROOM>, event: &Event, names: &Names)
-    requires empty { text.old.bytes ≡ [] }
+/// Appends a line without its line feed. One call for each form, all into the same buffer.
+fn push_words(text: &mut LineText, event: &Event, names: &Names)
+    requires room { HasRoom text.old.bytes }
     requires printable { IsPrintable names.now event.now }
-    ensures words { text.new.bytes ≡ words_of names.now event.now }
-    ensures short { length text.new.bytes ≤ 1080 }
+    ensures words { text.new.bytes ≡ text.old.bytes ++ words_of names.now event.now }
+    ensures short { length text.new.bytes ≤ length text.old.bytes + 1080 }
 {
     match event {
         Event::Made { code, serial } => made(text, *code, *serial),
@@ -90,89 +93,92 @@ fn push_words(text: &mut ArrayString<ROOM>, event: &Event, names: &Names)
     }
 }
 
-fn plain(text: &mut ArrayString<ROOM>, words: &str)
-    requires empty { text.old.bytes ≡ [] }
+fn plain(text: &mut LineText, words: &str)
+    requires room { HasRoom text.old.bytes }
     requires few { length words.now ≤ 100 }
-    ensures bytes { text.new.bytes ≡ words.now }
-    ensures short { length text.new.bytes ≤ 100 }
+    ensures bytes { text.new.bytes ≡ text.old.bytes ++ words.now }
+    ensures short { length text.new.bytes ≤ length text.old.bytes + 100 }
 {
     text.push_str(words);
 }
 
-fn about(text: &mut ArrayString<ROOM>, words: &str, serial: u64)
-    requires empty { text.old.bytes ≡ [] }
+fn about(text: &mut LineText, words: &str, serial: u64)
+    requires room { HasRoom text.old.bytes }
     requires few { length words.now ≤ 100 }
-    ensures bytes { text.new.bytes ≡ words.now ++ decimal serial }
-    ensures short { length text.new.bytes ≤ 200 }
+    ensures bytes { text.new.bytes ≡ text.old.bytes ++ (words.now ++ decimal serial) }
+    ensures short { length text.new.bytes ≤ length text.old.bytes + 200 }
 {
     text.push_str(words);
     text.push_str(Buffer::new().format(serial));
 }
 
-fn counted(text: &mut ArrayString<ROOM>, words: &str, number: u64)
-    requires empty { text.old.bytes ≡ [] }
+fn counted(text: &mut LineText, words: &str, number: u64)
+    requires room { HasRoom text.old.bytes }
     requires few { length words.now ≤ 100 }
-    ensures bytes { text.new.bytes ≡ words.now ++ number_text number }
-    ensures short { length text.new.bytes ≤ 200 }
+    ensures bytes { text.new.bytes ≡ text.old.bytes ++ (words.now ++ number_text number) }
+    ensures short { length text.new.bytes ≤ length text.old.bytes + 200 }
 {
     plain(text, words);
     push_number(text, number);
 }
 
-fn three(text: &mut ArrayString<ROOM>, words: &str, first: u64, second: u64, third: u64)
-    requires empty { text.old.bytes ≡ [] }
+fn three(text: &mut LineText, words: &str, first: u64, second: u64, third: u64)
+    requires room { HasRoom text.old.bytes }
     requires few { length words.now ≤ 100 }
-    ensures bytes { text.new.bytes ≡ words.now ++ number_text first ++ number_text second
-        ++ number_text third }
-    ensures short { length text.new.bytes ≤ 400 }
+    ensures bytes { text.new.bytes ≡ text.old.bytes ++ (words.now ++ number_text first
+        ++ number_text second ++ number_text third) }
+    ensures short { length text.new.bytes ≤ length text.old.bytes + 400 }
 {
     counted(text, words, first);
     push_number(text, second);
     push_number(text, third);
 }
 
-fn four(text: &mut ArrayString<ROOM>, words: &str, first: u64, second: u64, third: u64, fourth: u64)
-    requires empty { text.old.bytes ≡ [] }
+fn four(text: &mut LineText, words: &str, first: u64, second: u64, third: u64, fourth: u64)
+    requires room { HasRoom text.old.bytes }
     requires few { length words.now ≤ 100 }
-    ensures bytes { text.new.bytes ≡ words.now ++ number_text first ++ number_text second
-        ++ number_text third ++ number_text fourth }
-    ensures short { length text.new.bytes ≤ 500 }
+    ensures bytes { text.new.bytes ≡ text.old.bytes ++ (words.now ++ number_text first
+        ++ number_text second ++ number_text third ++ number_text fourth) }
+    ensures short { length text.new.bytes ≤ length text.old.bytes + 500 }
 {
     three(text, words, first, second, third);
     push_number(text, fourth);
 }
 
-fn answered(text: &mut ArrayString<ROOM>, words: &str, answer: bool)
-    requires empty { text.old.bytes ≡ [] }
+fn answered(text: &mut LineText, words: &str, answer: bool)
+    requires room { HasRoom text.old.bytes }
     requires few { length words.now ≤ 100 }
-    ensures bytes { text.new.bytes ≡ words.now ++ yes_or_no answer }
-    ensures short { length text.new.bytes ≤ 200 }
+    ensures bytes { text.new.bytes ≡ text.old.bytes ++ (words.now ++ yes_or_no answer) }
+    ensures short { length text.new.bytes ≤ length text.old.bytes + 200 }
 {
     plain(text, words);
     text.push_str(if answer { "yes" } else { "no" });
 }
 
-fn made(text: &mut ArrayString<ROOM>, code: KindCode, serial: u64)
-    requires empty { text.old.bytes ≡ [] }
-    ensures bytes { text.new.bytes ≡ codes "made " ++ kind_text code ++ serial_text serial }
-    ensures short { length text.new.bytes ≤ 200 }
+fn made(text: &mut LineText, code: KindCode, serial: u64)
+    requires room { HasRoom text.old.bytes }
+    ensures bytes { text.new.bytes ≡ text.old.bytes ++ (codes "made " ++ kind_text code
+        ++ serial_text serial) }
+    ensures short { length text.new.bytes ≤ length text.old.bytes + 200 }
 {
     about(text, made_words(code), serial);
 }
 
-fn enter(text: &mut ArrayString<ROOM>, sort: FrameSort, serial: u64)
-    requires empty { text.old.bytes ≡ [] }
-    ensures bytes { text.new.bytes ≡ codes "enter " ++ sort_text sort ++ serial_text serial }
-    ensures short { length text.new.bytes ≤ 200 }
+fn enter(text: &mut LineText, sort: FrameSort, serial: u64)
+    requires room { HasRoom text.old.bytes }
+    ensures bytes { text.new.bytes ≡ text.old.bytes ++ (codes "enter " ++ sort_text sort
+        ++ serial_text serial) }
+    ensures short { length text.new.bytes ≤ length text.old.bytes + 200 }
 {
     about(text, enter_words(sort), serial);
 }
 
-fn printed(text: &mut ArrayString<ROOM>, value: Val, names: &Names)
-    requires empty { text.old.bytes ≡ [] }
+fn printed(text: &mut LineText, value: Val, names: &Names)
+    requires room { HasRoom text.old.bytes }
     requires printable { IsPrintableValue names.now value }
-    ensures bytes { text.new.bytes ≡ codes "value " ++ value_text names.now value }
-    ensures short { length text.new.bytes ≤ 1080 }
+    ensures bytes { text.new.bytes ≡ text.old.bytes ++ (codes "value "
+        ++ value_text names.now value) }
+    ensures short { length text.new.bytes ≤ length text.old.bytes + 1080 }
 {
     plain(text, "value ");
     match value {
@@ -216,10 +222,10 @@ fn enter_words(sort: FrameSort) -> &'static str
 }
 
 /// Appends ` n`.
-fn push_number(text: &mut ArrayString<ROOM>, number: u64)
+fn push_number(text: &mut LineText, number: u64)
     requires { length text.old.bytes + 50 ≤ ROOM }
-    ensures appended { text.new.bytes ≡ text.old.bytes ++ number_text number }
-    ensures room { length text.new.bytes ≤ length text.old.bytes + 41 }
+    ensures bytes { text.new.bytes ≡ text.old.bytes ++ number_text number }
+    ensures short { length text.new.bytes ≤ length text.old.bytes + 41 }
 {
     text.push_str(" ");
     text.push_str(Buffer::new().format(number));
