@@ -23,7 +23,7 @@ use crate::bindings::given_up;
 use crate::done::{Done, Refusal, refusal_by};
 use crate::locals::Locals;
 use crate::operands::{Wanted, object, value};
-use crate::parts::{callback_parts, gather};
+use crate::parts::{Parts, callback_parts, gather};
 use cg_graph::{MOST_ENTRIES, MOST_OBJECTS};
 use cg_heap::{Heap, HeapFault};
 use cg_kind::Kind;
@@ -31,8 +31,11 @@ use cg_machine::Event;
 use cg_script::Operand;
 use cg_value::{Entry, KindCode, Val};
 
-/// Most objects start with at most this many entries, so only that much room is cleared for them.
-const FEW: usize = 8;
+/// Most lists and tuples start with at most so many items, so only that much room is cleared for them.
+const FEW: usize = 2;
+
+/// Of the others most start with at most so many.
+const SOME: usize = 8;
 
 /// What a new object is besides its entries.
 #[derive(Clone, Copy, Drop)]
@@ -105,6 +108,8 @@ fn make_sequence<B: Kind>(
 {
     if items.len() <= FEW {
         make_of::<B, FEW>(heap, locals, name, code, None, items, room)
+    } else if items.len() <= SOME {
+        make_of::<B, SOME>(heap, locals, name, code, None, items, room)
     } else {
         make_of::<B, 64>(heap, locals, name, code, None, items, room)
     }
@@ -134,7 +139,8 @@ fn make_of<B: Kind, const N: usize>(
         items.now) heap.new result }
     ensures room { OnOk result (room ≡ true) }
 {
-    let parts = gather::<B, N>(heap, locals, items)?;
+    let mut parts = Parts::new();
+    gather::<B, N>(heap, locals, items, &mut parts)?;
     let object = NewObject {
         code,
         class,

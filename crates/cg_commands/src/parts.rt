@@ -1,5 +1,5 @@
 //! The entries of a new object.
-ghost use Rattle.std.specs.Prelude.{◌≡◌, ◌<◌, ◌≤◌, ◌++◌, ◌∷◌, [], IfOk, IfErr, length};
+ghost use Rattle.std.specs.Prelude.{◌≡◌, ◌<◌, ◌≤◌, ◌++◌, ◌∷◌, [], IfOk, IfErr, OnOk, length};
 ghost use Rattle.std.specs.List.{All};
 ghost use Rattle.cg_graph.specs.Value.{item};
 ghost use Rattle.cg_script.specs.Texts.{operands_texts};
@@ -37,7 +37,8 @@ impl<const N: usize> Model for Parts<N> {
 }
 
 impl<const N: usize> Parts<N> {
-    fn new() -> Parts<N>
+    /// No entries.
+    pub(crate) fn new() -> Parts<N>
         ensures { result ≡ [] }
     {
         let none = Entry {
@@ -71,26 +72,27 @@ impl<const N: usize> Parts<N> {
     }
 }
 
-/// The items that the values of operands make, in order. Refuses at the first operand without a
-/// value.
+/// The items that the values of operands make, in order, written into `parts`, which is empty. Refuses
+/// at the first operand without a value.
 pub(crate) fn gather<B: Kind, const N: usize>(
     heap: &Heap<B>,
     locals: &Option<Locals>,
     operands: &[Operand],
-) -> Result<Parts<N>, Refusal>
+    parts: &mut Parts<N>,
+) -> Result<(), Refusal>
     requires known { All (λ n. n < length heap.now.names) (operands_texts operands.now) }
     requires locals { LocalsLive heap.now locals.now }
     requires few { length operands.now ≤ N }
-    ensures ok { IfOk result (λ parts. Gathers heap.now locals.now operands.now parts) }
+    requires empty { parts.old ≡ [] }
+    ensures ok { OnOk result (Gathers heap.now locals.now operands.now parts.new) }
     ensures err { IfErr result (λ r. IsRefused heap.now locals.now
         (λ w. machine.values w operands.now) r) }
 {
-    let mut parts = Parts::new();
     for operand in operands {
         let val = value(heap, locals, operand)?;
         parts.push(val);
     }
-    Ok(parts)
+    Ok(())
 }
 
 /// The entry of a weak reference with this callback: a function, or none for no callback.
