@@ -64,7 +64,7 @@ pub fn gc_over<S: Source, K: Sink, B: Kind>(
 ///
 /// | words | what is done |
 /// |---|---|
-/// | `run`, `run --budget N` | reads a script from the source and runs it; writes the text of the run, one `write` a line |
+/// | `run`, `run --budget N` | reads a script from the source and runs it; writes the text of the run, many lines in one `write` |
 /// | `generate N` | runs the script of N blocks, and writes the summary of its text |
 /// | `expand` | reads an extended script, and writes its expansion |
 /// | `record` | reads and runs a script, and writes the records of its collections |

@@ -30,7 +30,7 @@ use Rattle.cg_laws.specs.Kept.{StaysKept}
 use Rattle.cg_interp.specs.Graphs.{closing, text_before, text_after, unfinished_after, begins_record, begun_text, candidates_in, detection_on, taken, taken_while}
 use Rattle.cg_interp.specs.Recorded.{Picture, picture, lost_at, legacy_at, RunShows, records_of, wants_memory, WroteRecords, WroteRecordsPart}
 use Rattle.cg_interp.specs.Recording.{RecordsTurn, CutsRecord, RecordedSo, told_after, recorded_next, text_of_turn, picture_text, text_if_taken, text_so_far, unfinished_so_far}
-use Rattle.cg_interp.proofs.LineByLine.{after_front}
+use Rattle.cg_interp.proofs.LineByLine.{after_front, put_behind, dropped}
 use Rattle.cg_interp.proofs.RunLemmas.{ends_longer, lines_longer, kept_so_far}
 use Rattle.cg_interp.proofs.RecordText.{text_to_end, all_written, unfinished-append, text_so_far-append, front_of_all}
 use Rattle.cg_interp.proofs.ShownGraphs.{shows-append, some_shown, shows_first, graph_by}
@@ -51,7 +51,7 @@ recorded_start script budget e before stands = record {
     run = tt;
     lines = refl;
     stands = inl (stands, refl);
-    written = tt;
+    gathered = put_behind None [] [] [] refl;
   };
   pictures = [];
   shows = refl;
@@ -149,7 +149,7 @@ module _ (law : NoRunIsStuck) (script : Script) (budget : ℕ) (before : Option 
   left = so.ran.left
 
   abbrev kept : StaysKept script e.first_budget so_far
-  kept = kept_so_far script budget None e None so.ran laws first_budget
+  kept = kept_so_far script budget None e None [] so.ran laws first_budget
 
   -- so it may take a turn
   pub turn_may_be_recorded : IsSpelled script → IsFit script e → IsAtAnyTurn script e
@@ -194,9 +194,9 @@ module _ (law : NoRunIsStuck) (script : Script) (budget : ℕ) (before : Option 
         told = so.ran.told ++ tell;
         left = still;
         run = runs_longer;
-        lines = lines_longer script budget None e None so.ran laws first_budget events tell still after goes lines;
-        stands = subst (StandsWith script e' still) (sym (ends_longer script budget None e None so.ran laws first_budget events tell still after goes lines)) stands;
-        written = tt;
+        lines = lines_longer script budget None e None [] so.ran laws first_budget events tell still after goes lines;
+        stands = subst (StandsWith script e' still) (sym (ends_longer script budget None e None [] so.ran laws first_budget events tell still after goes lines)) stands;
+        gathered = dropped _;
       };
       pictures = pictures;
       shows = shows_longer;
@@ -214,7 +214,7 @@ module _ (law : NoRunIsStuck) (script : Script) (budget : ℕ) (before : Option 
       steps = longer;
       whole = record { run = runs_longer; whole = over; ends = ap (λ (v : World). v.outcome) (last_world-append (opening script budget) so.ran.steps goes.steps ∙ goes.ends) ∙ ended };
       unrefused =
-          ap (list_any wants_memory) (lines_longer script budget None e None so.ran laws first_budget events lines [] after goes (ap (λ l. l ++ events) none
+          ap (list_any wants_memory) (lines_longer script budget None e None [] so.ran laws first_budget events lines [] after goes (ap (λ l. l ++ events) none
           ∙ told ∙ sym (append-nil lines)) ∙ append-nil (so.ran.told ++ lines))
           ∙ list_any-append wants_memory so.ran.told lines
           ∙ both_false (list_any wants_memory so.ran.told) (list_any wants_memory lines) so.unrefused unrefused;

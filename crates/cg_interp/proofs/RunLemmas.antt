@@ -2,7 +2,6 @@
 use Rattle.std.proofs.Common.{◌≡◌, ◌≢◌, refl, sym, ◌∙◌, ap, subst, ℕ, ◌<◌, inl, List, [], ◌∷◌, ◌++◌, Option, append-nil, append_assoc}
 use Rattle.std.specs.Prelude.{flat_map}
 use Rattle.std.proofs.lemmas.Grind.{flat_map-append}
-use Rattle.std.proofs.KnownBytes.{Appends-trans, Appends-nil}
 use Rattle.std.specs.Io.KnownBytes.{Appends}
 use Rattle.cg_io.specs.Causes.{AppendsFront}
 use Rattle.cg_script.specs.declared.Script.{Script}
@@ -31,11 +30,11 @@ use Rattle.cg_interp.specs.Engines.{State, StandsFor}
 use Rattle.cg_interp.specs.Collecting.{StandsWith}
 use Rattle.cg_interp.specs.Telling.{TurnsAfter, Advances, GoesOnTo}
 use Rattle.cg_interp.specs.Written.{WroteRun, WrotePart}
-use Rattle.cg_interp.specs.Running.{Ran, HasLaws, MayWrite, MayRun, MayOpen, StaysPrintable, WritesTurn, CutsTurn, events_told, standing_after}
+use Rattle.cg_interp.specs.Running.{Ran, Gathers, HasLaws, MayWrite, MayRun, MayOpen, StaysPrintable, WritesTurn, CutsTurn, events_told, standing_after}
 use Rattle.cg_interp.proofs.Sizes.{IsSmall}
 use Rattle.cg_interp.proofs.MeasureOfTurns.{falling, turn_falls}
 use Rattle.cg_interp.specs.Turns.{RunEndsWith, IsFit}
-use Rattle.cg_interp.proofs.LineByLine.{after_front, longer_front}
+use Rattle.cg_interp.proofs.LineByLine.{longer_front, put_behind, gathers_then, cut_then, wrote_all}
 
 -- where no line is left, all are told
 all_told : (left lines : List Event) → left ≡ [] → left ++ lines ≡ lines ++ []
@@ -81,8 +80,8 @@ part_of_whole law script budget steps before now run wrote =
     }
 
 -- nothing was written yet
-pub ran_start : (script : Script) (budget : ℕ) (e : State) (before : Option (List ℕ)) → StandsFor script e (opening script budget) → Ran script budget before e before
-ran_start script budget e before stands = record { steps = []; told = []; left = []; run = tt; lines = refl; stands = inl (stands, refl); written = Appends-nil before }
+pub ran_start : (script : Script) (budget : ℕ) (e : State) (before : Option (List ℕ)) → StandsFor script e (opening script budget) → (held : List ℕ) → held ≡ [] → Ran script budget before e before held
+ran_start script budget e before stands held none = record { steps = []; told = []; left = []; run = tt; lines = refl; stands = inl (stands, refl); gathered = put_behind before [] held [] none }
 
 -- what the laws say of a script that some bytes spell
 pub has_laws : WorldsStayKept → LinesArePrintable → (script : Script) (budget : ℕ) → TextsAreKnown script → IsSpelled script → HasLaws script budget
@@ -102,8 +101,8 @@ may_run kept printable script heap budget may e stands fit first_budget = record
 }
 
 -- What ran so far, and the laws.
-module _ (script : Script) (budget : ℕ) (before : Option (List ℕ)) (e : State) (now : Option (List ℕ)) (ran : Ran script budget before e now)
-    (laws : HasLaws script budget) (first_budget : e.first_budget ≡ budget) where
+module _ (script : Script) (budget : ℕ) (before : Option (List ℕ)) (e : State) (now : Option (List ℕ)) (held : List ℕ)
+    (ran : Ran script budget before e now held) (laws : HasLaws script budget) (first_budget : e.first_budget ≡ budget) where
   -- the world after it
   abbrev pub so_far : World
   so_far = world_after script budget ran.steps
@@ -147,82 +146,85 @@ module _ (script : Script) (budget : ℕ) (before : Option (List ℕ)) (e : Stat
     told_longer : text (ran.told ++ tell) ≡ text ran.told ++ text tell
     told_longer = flat_map-append (line script.names) ran.told tell
 
-    wrote_longer : (now' : Option (List ℕ)) → Appends now now' (text tell) → Appends before now' (text (ran.told ++ tell))
-    wrote_longer now' wrote = subst (Appends before now') (sym told_longer) (Appends-trans before now now' _ _ ran.written wrote)
+    gathered_longer : (now' : Option (List ℕ)) (holds : List ℕ) → Gathers now now' held holds (text tell) → Gathers before now' [] holds (text (ran.told ++ tell))
+    gathered_longer now' holds gathered = subst (Gathers before now' [] holds) (sym told_longer) (gathers_then before now [] held _ ran.gathered now' holds _ gathered)
 
-    ran_longer : (e' : State) (now' : Option (List ℕ)) → StandsWith script e' still after → Appends now now' (text tell) → Ran script budget before e' now'
-    ran_longer e' now' stands wrote = record {
+    ran_longer : (e' : State) (now' : Option (List ℕ)) (holds : List ℕ) → StandsWith script e' still after → Gathers now now' held holds (text tell)
+        → Ran script budget before e' now' holds
+    ran_longer e' now' holds stands gathered = record {
       steps = longer;
       told = ran.told ++ tell;
       left = still;
       run = run_longer;
       lines = lines_longer;
       stands = subst (StandsWith script e' still) (sym ends_longer) stands;
-      written = wrote_longer now' wrote;
+      gathered = gathered_longer now' holds gathered;
     }
 
-    ran_whole : (outcome : Outcome) (now' : Option (List ℕ)) → still ≡ [] → after.outcome ≡ outcome → outcome ≢ Running → Appends now now' (text tell) → WroteRun script budget outcome before now'
-    ran_whole outcome now' none ended over wrote = record {
+    ran_whole : (outcome : Outcome) (now' : Option (List ℕ)) (holds : List ℕ) → still ≡ [] → after.outcome ≡ outcome → outcome ≢ Running → holds ≡ []
+        → Gathers now now' held holds (text tell) → WroteRun script budget outcome before now'
+    ran_whole outcome now' holds none ended over all gathered = record {
       steps = longer;
       whole = record { run = run_longer; whole = over; ends = ap (λ (w : World). w.outcome) ends_longer ∙ ended };
-      written = subst (λ es. Appends before now' (text es)) (sym (lines_longer ∙ ap (λ es. (ran.told ++ tell) ++ es) none ∙ append-nil (ran.told ++ tell))) (wrote_longer now' wrote);
+      written = subst (λ es. Appends before now' (text es)) (sym (lines_longer ∙ ap (λ es. (ran.told ++ tell) ++ es) none ∙ append-nil (ran.told ++ tell)))
+          (wrote_all before now' [] holds _ (gathered_longer now' holds gathered) refl all);
     }
 
-    ran_part : FrontsBeginWholeTexts → (now' : Option (List ℕ)) → AppendsFront now now' (text tell) → WrotePart script budget before now'
+    ran_part : FrontsBeginWholeTexts → (now' : Option (List ℕ)) → AppendsFront now now' (held ++ text tell) → WrotePart script budget before now'
     ran_part law now' wrote =
         let all : text_of script longer ≡ text (ran.told ++ tell) ++ text still = ap text lines_longer ∙ flat_map-append (line script.names) (ran.told ++ tell) still in
-        let front : AppendsFront before now' (text (ran.told ++ tell)) = subst (AppendsFront before now') (sym told_longer) (after_front before now now' _ _ ran.written wrote) in
+        let front : AppendsFront before now' (text (ran.told ++ tell)) = subst (AppendsFront before now') (sym told_longer) (cut_then before now [] held _ ran.gathered now' _ wrote) in
         part_of_whole law script budget longer before now' run_longer (subst (AppendsFront before now') (sym all) (longer_front before now' (text (ran.told ++ tell)) (text still) front))
 
+  -- a line was cut off
+  pub ran_cut : FrontsBeginWholeTexts → (e' : State) (now' : Option (List ℕ)) → ((w : World) (left : List Event) → StandsWith script e left w → StaysKept script e.first_budget w
+      → CutsTurn script e w left e' now now' held) → WrotePart script budget before now'
+  ran_cut law e' now' cut =
+      let t = cut so_far ran.left ran.stands kept_so_far in
+      let g = went script (Advances e ran.left e') so_far ran.left e' t.waits t.answer t.turns in
+      ran_part g.events (t.waits ++ events_told t.answer) g.still g.after g.goes g.lines law now' t.written
+
   -- A turn with its lines extends the run, or ends it.
-  module _ (e' : State) (now' : Option (List ℕ)) where
+  module _ (e' : State) (now' : Option (List ℕ)) (holds : List ℕ) where
     abbrev pub Wrote : Standing → Type 0
-    Wrote stands = (w : World) (left : List Event) → StandsWith script e left w → StaysKept script e.first_budget w → WritesTurn script e w left e' stands now now'
+    Wrote stands = (w : World) (left : List Event) → StandsWith script e left w → StaysKept script e.first_budget w → WritesTurn script e w left e' stands now now' held holds
 
     abbrev Turned_so : List Event → Turned → Type 0
     Turned_so waits answer = TurnsAfter script (Advances e ran.left e') so_far ran.left e' waits answer
 
     abbrev Wrote_so : List Event → Turned → Type 0
-    Wrote_so waits answer = Appends now now' (text (waits ++ events_told answer))
+    Wrote_so waits answer = Gathers now now' held holds (text (waits ++ events_told answer))
 
-    pub ran_on : (stands : Standing) → stands ≡ standing.Running → Wrote stands → Ran script budget before e' now'
-    ran_on stands runs t = let h = t so_far ran.left ran.stands kept_so_far in go h.waits h.answer (h.is ∙ runs) h.turns h.written
+    pub ran_on : (stands : Standing) → stands ≡ standing.Running → Wrote stands → Ran script budget before e' now' holds
+    ran_on stands runs t = let h = t so_far ran.left ran.stands kept_so_far in go h.waits h.answer (h.is ∙ runs) h.turns h.gathered
       where
-        on : (told : List Event) → GoesOnTo script (Advances e ran.left e') so_far ran.left told e' → Appends now now' (text told) → Ran script budget before e' now'
-        on told g wrote = ran_longer g.events told g.still g.after g.goes g.lines e' now' g.stands wrote
+        on : (told : List Event) → GoesOnTo script (Advances e ran.left e') so_far ran.left told e' → Gathers now now' held holds (text told) → Ran script budget before e' now' holds
+        on told g gathered = ran_longer g.events told g.still g.after g.goes g.lines e' now' holds g.stands gathered
 
-        go : (waits : List Event) (answer : Turned) → standing_after answer ≡ standing.Running → Turned_so waits answer → Wrote_so waits answer → Ran script budget before e' now'
+        go : (waits : List Event) (answer : Turned) → standing_after answer ≡ standing.Running → Turned_so waits answer → Wrote_so waits answer → Ran script budget before e' now' holds
         go waits turned.Quiet is g wrote = on (waits ++ []) g wrote
         go waits (turned.Line event) is g wrote = on (waits ++ event ∷ []) g wrote
         go waits (turned.Lines events) is g wrote = on (waits ++ events) g wrote
         go waits _ is g wrote = absurd (cc)
 
     pub ran_to_end : (stands : Standing) → stands ≡ standing.Ended → Wrote stands → WroteRun script budget Ended before now'
-    ran_to_end stands over t = let h = t so_far ran.left ran.stands kept_so_far in go h.waits h.answer (h.is ∙ over) h.turns h.written
+    ran_to_end stands over t = let h = t so_far ran.left ran.stands kept_so_far in go (h.all (λ runs. let no = sym over ∙ runs in absurd (cc))) h.waits h.answer (h.is ∙ over) h.turns h.gathered
       where
-        ends : (lines : List Event) → ran.left ≡ [] → RunEndsWith script so_far lines Ended → Appends now now' (text lines) → WroteRun script budget Ended before now'
-        ends lines none k wrote = ran_whole lines lines [] k.after k.goes (ap (λ l. l ++ lines) none ∙ sym (append-nil lines)) Ended now' refl k.ended (λ n. cc) wrote
+        ends : holds ≡ [] → (lines : List Event) → ran.left ≡ [] → RunEndsWith script so_far lines Ended → Gathers now now' held holds (text lines) → WroteRun script budget Ended before now'
+        ends all lines none k wrote = ran_whole lines lines [] k.after k.goes (ap (λ l. l ++ lines) none ∙ sym (append-nil lines)) Ended now' holds refl k.ended (λ n. cc) all wrote
 
-        go : (waits : List Event) (answer : Turned) → standing_after answer ≡ standing.Ended → Turned_so waits answer → Wrote_so waits answer → WroteRun script budget Ended before now'
-        go waits turned.Ended is g wrote = ends (waits ++ End ∷ []) g.0 g.1 wrote
-        go waits (turned.Left n) is g wrote = ends (waits ++ Left n ∷ End ∷ []) g.0 g.1 wrote
-        go waits _ is g wrote = absurd (cc)
+        go : holds ≡ [] → (waits : List Event) (answer : Turned) → standing_after answer ≡ standing.Ended → Turned_so waits answer → Wrote_so waits answer → WroteRun script budget Ended before now'
+        go all waits turned.Ended is g wrote = ends all (waits ++ End ∷ []) g.0 g.1 wrote
+        go all waits (turned.Left n) is g wrote = ends all (waits ++ Left n ∷ End ∷ []) g.0 g.1 wrote
+        go all waits _ is g wrote = absurd (cc)
 
     pub ran_out : (stands : Standing) → stands ≡ standing.Spent → Wrote stands → WroteRun script budget BudgetIsSpent before now'
-    ran_out stands spent t = let h = t so_far ran.left ran.stands kept_so_far in go h.waits h.answer (h.is ∙ spent) h.turns h.written
+    ran_out stands spent t = let h = t so_far ran.left ran.stands kept_so_far in go (h.all (λ runs. let no = sym spent ∙ runs in absurd (cc))) h.waits h.answer (h.is ∙ spent) h.turns h.gathered
       where
-        go : (waits : List Event) (answer : Turned) → standing_after answer ≡ standing.Spent → Turned_so waits answer → Wrote_so waits answer → WroteRun script budget BudgetIsSpent before now'
-        go waits turned.Spent is (none, ends) wrote = ran_whole (waits ++ BudgetSpent ∷ []) (waits ++ BudgetSpent ∷ []) [] ends.after ends.goes (all_told ran.left (waits ++ BudgetSpent ∷ []) none)
-            BudgetIsSpent now' refl ends.ended (λ n. cc) wrote
-        go waits _ is g wrote = absurd (cc)
-
-    -- a line was cut off
-    pub ran_cut : FrontsBeginWholeTexts → ((w : World) (left : List Event) → StandsWith script e left w → StaysKept script e.first_budget w
-        → CutsTurn script e w left e' now now') → WrotePart script budget before now'
-    ran_cut law cut =
-        let t = cut so_far ran.left ran.stands kept_so_far in
-        let g = went script (Advances e ran.left e') so_far ran.left e' t.waits t.answer t.turns in
-        ran_part g.events (t.waits ++ events_told t.answer) g.still g.after g.goes g.lines law now' t.written
+        go : holds ≡ [] → (waits : List Event) (answer : Turned) → standing_after answer ≡ standing.Spent → Turned_so waits answer → Wrote_so waits answer → WroteRun script budget BudgetIsSpent before now'
+        go all waits turned.Spent is (none, ends) wrote = ran_whole (waits ++ BudgetSpent ∷ []) (waits ++ BudgetSpent ∷ []) [] ends.after ends.goes (all_told ran.left (waits ++ BudgetSpent ∷ []) none)
+            BudgetIsSpent now' holds refl ends.ended (λ n. cc) all wrote
+        go all waits _ is g wrote = absurd (cc)
 
     -- Each turn that goes on lowers the number.
     pub falls_on : (stands : Standing) → IsSmall e'.store → stands ≡ standing.Running → Wrote stands → falling script e' < falling script e

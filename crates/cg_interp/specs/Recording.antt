@@ -78,7 +78,7 @@ unfinished_so_far unfinished (p ∷ pictures) = unfinished_so_far (begins_record
 -- A run of the machine so far, whose lines are dropped and whose records were written. No command of it was refused for
 -- memory.
 pub record RecordedSo (script : Script) (budget : ℕ) (before : Option (List ℕ)) (e : State) (unfinished : Bool) (now : Option (List ℕ)) : Type 0 where
-  pub ran : Ran script budget None e None
+  pub ran : Ran script budget None e None []
   pub pictures : List Picture
   pub shows : RunShows script (opening script budget) ran.steps pictures
   pub unrefused : list_any wants_memory ran.told ≡ false

@@ -1,5 +1,5 @@
 -- A run of an engine: its turns with their lines, and what was written so far. (Ours.)
-use Rattle.std.specs.Prelude.{◌≡◌, ◌≤◌, ℕ, List, [], ◌∷◌, ◌++◌, Option, flat_map, length}
+use Rattle.std.specs.Prelude.{◌≡◌, ◌≢◌, ◌≤◌, ℕ, List, [], ◌∷◌, ◌++◌, Option, flat_map, length}
 use Rattle.std.specs.Io.KnownBytes.{Appends}
 use Rattle.cg_io.specs.Causes.{AppendsFront}
 use Rattle.cg_script.specs.declared.Script.{Script}
@@ -42,20 +42,27 @@ standing_after turned.Ended = standing.Ended
 standing_after (turned.Left n) = standing.Ended
 standing_after turned.Spent = standing.Spent
 
--- A turn of the engine that leaves the run in this state; its lines were written.
-pub record WritesTurn (script : Script) (old : State) (w : World) (left : List Event) (e : State) (stands : Standing) (before now : Option (List ℕ)) : Type 0 where
+-- Bytes were gathered behind those that were held; what is not held now was written.
+pub record Gathers (before now : Option (List ℕ)) (held holds bytes : List ℕ) : Type 0 where
+  pub front : List ℕ
+  pub whole : held ++ bytes ≡ front ++ holds
+  pub written : Appends before now front
+
+-- A turn of the engine that leaves the run in this state; its lines were gathered, and written if the run has ended.
+pub record WritesTurn (script : Script) (old : State) (w : World) (left : List Event) (e : State) (stands : Standing) (before now : Option (List ℕ)) (held holds : List ℕ) : Type 0 where
   pub waits : List Event
   pub answer : Turned
   pub is : standing_after answer ≡ stands
   pub turns : TurnsAfter script (Advances old left e) w left e waits answer
-  pub written : Appends before now (flat_map (line script.names) (waits ++ events_told answer))
+  pub gathered : Gathers before now held holds (flat_map (line script.names) (waits ++ events_told answer))
+  pub all : stands ≢ standing.Running → holds ≡ []
 
--- A turn of the engine, and a prefix of its lines was written.
-pub record CutsTurn (script : Script) (old : State) (w : World) (left : List Event) (e : State) (before now : Option (List ℕ)) : Type 0 where
+-- A turn of the engine; a prefix of what was held and its lines was written.
+pub record CutsTurn (script : Script) (old : State) (w : World) (left : List Event) (e : State) (before now : Option (List ℕ)) (held : List ℕ) : Type 0 where
   pub waits : List Event
   pub answer : Turned
   pub turns : TurnsAfter script (Advances old left e) w left e waits answer
-  pub written : AppendsFront before now (flat_map (line script.names) (waits ++ events_told answer))
+  pub written : AppendsFront before now (held ++ flat_map (line script.names) (waits ++ events_told answer))
 
 -- Each remaining line, and each that the machine will print, can be printed.
 abbrev pub StaysPrintable : Script → List Event → World → Type 0
@@ -86,13 +93,13 @@ pub record MayOpen (script : Script) (store : Store) (budget : ℕ) : Type 0 whe
   pub empty : store ≡ opening_store (length script.names)
   pub allowed : budget ≤ MOST_BUDGET
 
--- A run of the machine so far: its lines are those written and those that a collection still has to print, and the engine
--- represents the world after it.
-pub record Ran (script : Script) (budget : ℕ) (before : Option (List ℕ)) (e : State) (now : Option (List ℕ)) : Type 0 where
+-- A run of the machine so far: its lines are those written, those held and those that a collection still has to print, and the
+-- engine represents the world after it.
+pub record Ran (script : Script) (budget : ℕ) (before : Option (List ℕ)) (e : State) (now : Option (List ℕ)) (held : List ℕ) : Type 0 where
   pub steps : List StepTaken
   pub told : List Event
   pub left : List Event
   pub run : IsRun script budget steps
   pub lines : events_of steps ≡ told ++ left
   pub stands : StandsWith script e left (world_after script budget steps)
-  pub written : Appends before now (flat_map (line script.names) told)
+  pub gathered : Gathers before now [] held (flat_map (line script.names) told)

@@ -43,7 +43,7 @@ pub enum RunEnd {
     OutOfMemory,
 }
 
-/// One turn, and its lines.
+/// One turn; its lines gather in the text, and all of it is written if the run has ended.
 fn turn_and_write<B: Kind, K: Sink, L: Ledger>(
     engine: &mut Engine<B>,
     script: &Script,
@@ -57,12 +57,12 @@ fn turn_and_write<B: Kind, K: Sink, L: Ledger>(
         engine.old left w
         → StaysKept script.now engine.old.first_budget w
         → WritesTurn script.now engine.old w left engine.new stands (K.written sink.old)
-        (K.written sink.new)) }
+        (K.written sink.new) text.old.bytes text.new.bytes) }
     ensures err { OnErr result ((w : World) (left : List AnyEvent) → StandsWith script.now
         engine.old left w
         → StaysKept script.now engine.old.first_budget w
         → CutsTurn script.now engine.old w left engine.new (K.written sink.old)
-        (K.written sink.new)) }
+        (K.written sink.new) text.old.bytes) }
     ensures cause { HasCause (K.faults sink.old) (K.faults sink.new) result }
     ensures fit { StaysFit engine.old engine.new }
     ensures sound { IsSound engine.new.store }
@@ -77,7 +77,7 @@ fn turn_and_write<B: Kind, K: Sink, L: Ledger>(
     }
 }
 
-/// Takes turns and writes their lines, until the run has ended or the sink has failed.
+/// Takes turns and writes their lines as they gather, until the run has ended or the sink has failed.
 fn run_turns<B: Kind, K: Sink, L: Ledger>(
     engine: &mut Engine<B>,
     script: &Script,
@@ -146,7 +146,7 @@ fn open_and_run<B: Kind, K: Sink, L: Ledger>(
 }
 
 /// Runs a script that some bytes spell, with a budget of at most 100,000 frames, on a new heap
-/// (`Heap::new`) for the script's names, and writes the lines of the run, one `write` a line.
+/// (`Heap::new`) for the script's names, and writes the lines of the run, many in one `write`.
 ///
 /// `Done` if the run ended by `end`, `Budget` if it ended by `budget spent`, `WriteFault` if the
 /// sink failed, and `OutOfMemory` if memory was refused before anything was written. After any

@@ -1,8 +1,8 @@
-//! A write refused at each line, and a read refused at each call, whatever the job.
+//! Each write refused, and a read refused at each call, whatever the job.
 use crate::calls::{EXPAND, Faults, RECORD, RUN, answer_to, answer_under, assert_answer, lines};
 use crate::one_byte::OneByte;
-use crate::parts::Line::Filled;
-use crate::parts::Part::Turns;
+use crate::parts::Line::{Filled, Plain};
+use crate::parts::Part::{Lines, Turns};
 use crate::parts::built;
 use crate::recordings::RECORD_OF_RING;
 use crate::sizes::TOO_LARGE;
@@ -97,28 +97,21 @@ fn line_count(text: &[u8]) -> u32 {
     count
 }
 
-/// Where the line with this number begins, counting from 0; the end if there are fewer lines.
-fn start_of(text: &[u8], line: u32) -> usize {
-    let mut begun = 0u32;
+/// The lines of a run gather, and are written once they have more bytes than this.
+const FULL: usize = 8200;
+
+/// Where a write that begins at this byte ends: with the first line after which it has more bytes
+/// than `full`, or else with the text.
+fn end_of_write(text: &[u8], start: usize, full: usize) -> usize {
     for (at, byte) in text.iter().enumerate() {
-        if begun == line {
-            return at;
-        }
-        if *byte == b'\n' {
-            begun = begun.saturating_add(1);
+        if *byte == b'\n' && at >= start.saturating_add(full) {
+            return at.saturating_add(1);
         }
     }
     text.len()
 }
 
-/// The lines before the one with this number, and the first `keep` bytes of that one.
-fn front_of(text: &[u8], line: u32, keep: usize) -> &[u8] {
-    let whole = start_of(text, line.saturating_add(1));
-    let end = start_of(text, line).saturating_add(keep).min(whole);
-    &text[..end.min(text.len())]
-}
-
-/// Each write of a call fails in turn, and keeps nothing, two bytes or all of its line.
+/// Each write of a call fails in turn, and keeps nothing, two bytes or all that it is given.
 fn check_writes(
     rt: &impl Abort,
     alloc: Global,
@@ -128,22 +121,27 @@ fn check_writes(
     text: &[u8],
     name: &str,
 ) -> Result<(), AllocError> {
-    let last = line_count(text);
-    for keep in [0usize, 2, 100] {
-        for line in 0..=last {
+    // Records are written line by line.
+    let records = words.iter().any(|word| *word == "record");
+    let full = if records { 0 } else { FULL };
+    for keep in [0usize, 2, 10000] {
+        let mut start = 0usize;
+        for write in 1..=u64::from(line_count(text)).saturating_add(1) {
+            let end = end_of_write(text, start, full);
             let mut source = PlainSource::new(Vec::from_slice(alloc, script)?);
             let faults = Faults {
-                write: u64::from(line) + 1,
+                write,
                 keep,
                 make: None,
             };
             let found = answer_under(alloc, words, &mut source, faults)?;
-            let wanted = if line < last {
-                Status::WriteFault
-            } else {
-                status
-            };
-            assert_answer(rt, &found, wanted, front_of(text, line, keep), name);
+            if start >= text.len() {
+                assert_answer(rt, &found, status, text, name);
+                break;
+            }
+            let kept = start.saturating_add(keep).min(end).min(text.len());
+            assert_answer(rt, &found, Status::WriteFault, &text[..kept], name);
+            start = end;
         }
     }
     Ok(())
@@ -157,6 +155,15 @@ fn each_write_fails_in_turn(rt: HostRuntime) -> Result<(), Fail> {
         let text = lines(alloc, text)?;
         check_writes(&rt, alloc, words, &bytes, *status, &text, script)?;
     }
+    let bytes = built(alloc, &[Turns(700, &[Plain("print -9223372036854775808")])])?;
+    let text = built(
+        alloc,
+        &[
+            Turns(700, &[Plain("value -9223372036854775808")]),
+            Lines("end"),
+        ],
+    )?;
+    check_writes(&rt, alloc, RUN, &bytes, Status::Done, &text, "prints")?;
     let bytes = built(alloc, &TOO_LARGE)?;
     let large = Status::TooLarge;
     check_writes(&rt, alloc, RUN, &bytes, large, b"too large\n", "spaces")?;

@@ -1,4 +1,4 @@
-use Rattle.std.proofs.Common.{sym}
+use Rattle.std.proofs.Common.{sym, ◌∙◌}
 use Rattle.cg_interp.proofs.RunLemmas.{told_printable}
 use Rattle.cg_interp.proofs.run.turn_and_write.Goals as goal
 
@@ -14,7 +14,8 @@ returns-in-Ok-clause-ok g c = λ w left stands kept. record {
   is = sym c.standing.ensures;
   turns = c.turn-answer.ensures.turns w
       left stands kept;
-  written = c.in-Ok.ensures.ok;
+  gathered = c.in-Ok.ensures.ok;
+  all = λ over. c.in-Ok.ensures.all (λ runs. over (c.standing.ensures ∙ runs));
 }
 
 pub returns-clause-err : goal.returns-clause-err
