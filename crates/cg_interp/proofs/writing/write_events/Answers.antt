@@ -1,6 +1,6 @@
 use Rattle.std.proofs.Common.{arith}
 use Rattle.std.proofs.lemmas.Result.{err_from_is_err_and}
-use Rattle.cg_interp.proofs.LineByLine.{is_one, wrote_part, gathers_next, put_behind}
+use Rattle.cg_interp.proofs.LineByLine.{is_one, wrote_part, gathers_next}
 use Rattle.cg_interp.proofs.writing.write_events.Goals as goal
 
 pub write_event-requires : goal.write_event-requires
