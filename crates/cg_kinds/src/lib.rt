@@ -32,6 +32,7 @@ mod list;
 mod listed;
 mod nine;
 mod one;
+mod one_pair;
 mod order;
 mod packed;
 mod pair;

@@ -87,7 +87,7 @@ impl Listed {
         ensures { slice_get (items_listed self.now) i ≡ Some result }
     {
         match self {
-            Listed::One(one) => one.val(),
+            Listed::One(one) => one.get().val(),
             Listed::Few(few) => few[i].val(),
             Listed::Many(columns) => columns.val(i),
         }
@@ -135,7 +135,7 @@ impl Listed {
     {
         match self {
             Listed::One(one) => {
-                let val = one.val();
+                let val = one.get().val();
                 one.kept = None;
                 val
             }

@@ -6,7 +6,7 @@ ghost use Rattle.cg_kind.specs.Calls.{AreItems, next_entries};
 use crate::kept::KeepsEntry;
 use crate::packed::Packed;
 use cg_kind::{Noted, ROOM};
-use cg_value::{Entry, Val};
+use cg_value::Entry;
 use std::alloc::{AllocError, Global};
 
 /// Nothing or one of these, which lies in place and takes no block of memory.
@@ -24,6 +24,18 @@ impl<T: KeepsEntry> One<T> {
         ensures { result ≡ length (option_to_list self.now.kept) }
     {
         if self.kept.is_some() { 1 } else { 0 }
+    }
+
+    /// What is there.
+    #[inline(always)]
+    pub fn get(&self) -> &T
+        requires { IsSome self.now.kept }
+        ensures { self.now.kept ≡ Some result.now }
+    {
+        match &self.kept {
+            Some(kept) => kept,
+            None => unreachable!(),
+        }
     }
 
     /// Visits its entry from a position on, as `cg_kind::Kind::note_from` specifies.
@@ -63,18 +75,6 @@ impl One<Packed> {
             None => None,
         };
         One { alloc, kept }
-    }
-
-    /// The value.
-    #[inline(always)]
-    pub fn val(&self) -> Val
-        requires { IsSome self.now.kept }
-        ensures { self.now.kept ≡ Some result }
-    {
-        match &self.kept {
-            Some(value) => value.val(),
-            None => unreachable!(),
-        }
     }
 
     /// A vector of the value, if there is one, with room for so many values in all. The value stays
