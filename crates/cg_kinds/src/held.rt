@@ -25,6 +25,9 @@ pub enum Held {
     Many(Box<Table>),
 }
 
+// A pair in place takes no more room than the vector of a few.
+const _: () = prove!(size_of::<Held>() == 32);
+
 /// Removes the pair of a key from a few, if there is one.
 ///
 /// A separate function, so that its result is not moved together with the caller's other results.
@@ -209,6 +212,7 @@ impl Held {
     }
 
     /// Removes the last pair, if there is one.
+    #[inline(always)]
     pub fn detach(&mut self) -> Option<Entry>
         ensures pairs { entries_held self.old ≡ entries_held self.new ++ option_to_list result }
         ensures empty { IsNone result → entries_held self.old ≡ [] }
