@@ -96,13 +96,13 @@ fn table_of(alloc: Global, pairs: &[Pair]) -> Result<Table, AllocError>
 }
 
 impl Few {
-    /// No pairs.
-    pub fn new(alloc: Global) -> Few
-        ensures { result ≡ [] }
+    /// One pair, with room for another.
+    pub fn of_one(alloc: Global, pair: Entry) -> Result<Few, AllocError>
+        ensures { IfOk result (λ few. few ≡ pair ∷ []) }
     {
-        Few {
-            pairs: Vec::new(alloc),
-        }
+        let mut pairs = Vec::with_capacity(alloc, 2)?;
+        pairs.push_reserved(Pair::new(pair));
+        Ok(Few { pairs })
     }
 
     /// The number of pairs.

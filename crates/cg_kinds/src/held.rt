@@ -1,10 +1,13 @@
-//! The pairs of a dictionary or an instance: few in a list, or any number in a map.
+//! The pairs of a dictionary or an instance: at most one in place, few in a list, or any number in a
+//! map.
 ghost use Rattle.std.specs.Prelude.{◌≡◌, ◌<◌, ◌+◌, ◌≤◌, ◌++◌, [], length, take, IfOk, IsOk, IsNone, IsSome, OnOk, OnErr, option_to_list, position, slice_get, remove};
 ghost use Rattle.cg_graph.specs.Value.{value_at, put, without_key, references, entry_at as entry_under};
 ghost use Rattle.cg_kind.specs.Calls.{has_key, next_entries};
 ghost use Rattle.cg_kinds.specs.Held.{entries_held};
 
 use crate::few::Few;
+use crate::one::One;
+use crate::pair::Pair;
 use crate::table::Table;
 use cg_kind::{Noted, ROOM};
 use cg_value::{Entry, Val};
@@ -12,13 +15,18 @@ use std::alloc::{AllocError, Global};
 
 /// Pairs in insertion order.
 ///
-/// When they become too many for a list, all move into a map and stay there, however many leave. So
-/// a search visits a few pairs and hashes nothing, or hashes once and visits none.
+/// When they become too many for one form, all move into the next and stay there, however many
+/// leave. So one pair takes no block of memory, and a search visits a few pairs and hashes nothing,
+/// or hashes once and visits none.
 #[derive(Drop)]
 pub enum Held {
+    One(One<Pair>),
     Few(Few),
     Many(Box<Table>),
 }
+
+// A pair in place takes no more room than the vector of a few.
+const _: () = prove!(size_of::<Held>() == 32);
 
 /// Removes the pair of a key from a few, if there is one.
 ///
@@ -37,7 +45,7 @@ impl Held {
     pub fn new(alloc: Global) -> Held
         ensures { entries_held result ≡ [] }
     {
-        Held::Few(Few::new(alloc))
+        Held::One(One { alloc, kept: None })
     }
 
     /// The number of pairs.
@@ -46,6 +54,7 @@ impl Held {
         ensures { result ≡ length (entries_held self.now) }
     {
         match self {
+            Held::One(one) => one.len(),
             Held::Few(few) => few.len(),
             Held::Many(table) => table.len(),
         }
@@ -58,6 +67,7 @@ impl Held {
         ensures { slice_get (entries_held self.now) i ≡ Some result }
     {
         match self {
+            Held::One(one) => one.get().entry(),
             Held::Few(few) => few.entry_at(i),
             Held::Many(table) => table.entry_at(i),
         }
@@ -75,6 +85,7 @@ impl Held {
         ensures room { length found.new ≡ length found.old }
     {
         match self {
+            Held::One(one) => one.note_from(from, found),
             Held::Few(few) => few.note_from(from, found),
             Held::Many(table) => table.note_from(from, found),
         }
@@ -86,6 +97,7 @@ impl Held {
         ensures { result ≡ position (has_key key) (entries_held self.now) }
     {
         match self {
+            Held::One(one) => one.find(key),
             Held::Few(few) => few.find(key),
             Held::Many(table) => table.find(key),
         }
@@ -97,6 +109,7 @@ impl Held {
         ensures { result ≡ value_at (entries_held self.now) key }
     {
         match self {
+            Held::One(one) => one.value_of(key),
             Held::Few(few) => few.value_of(key),
             Held::Many(table) => table.value_of(key),
         }
@@ -111,6 +124,13 @@ impl Held {
         ensures err { OnErr result (entries_held self.new ≡ entries_held self.old) }
     {
         match self {
+            Held::One(one) => match one.replace(key, val) {
+                Some(was) => Ok(Some(was)),
+                None => {
+                    self.add(Entry { key, val })?;
+                    Ok(None)
+                }
+            },
             Held::Few(few) => match few.replace(key, val) {
                 Some(was) => Ok(Some(was)),
                 None => {
@@ -138,6 +158,14 @@ impl Held {
         ensures err { OnErr result (entries_held self.new ≡ entries_held self.old) }
     {
         match self {
+            Held::One(one) => match &one.kept {
+                Some(first) => {
+                    let mut few = Few::of_one(one.alloc, first.entry())?;
+                    few.push(pair.key, pair.val)?;
+                    *self = Held::Few(few);
+                }
+                None => one.kept = Some(Pair::new(pair)),
+            },
             Held::Few(few) => {
                 if few.is_full() {
                     *self = Held::Many(few.table_with(pair.key, pair.val)?);
@@ -160,6 +188,11 @@ impl Held {
         ensures rest { entries_held self.new ≡ remove (entries_held self.old) i }
     {
         match self {
+            Held::One(one) => {
+                let entry = one.get().entry();
+                one.kept = None;
+                entry
+            }
             Held::Few(few) => few.take(i),
             Held::Many(table) => table.take(i),
         }
@@ -172,17 +205,23 @@ impl Held {
         ensures rest { entries_held self.new ≡ without_key (entries_held self.old) key }
     {
         match self {
+            Held::One(one) => one.take_key(key),
             Held::Few(few) => take_from(few, key),
             Held::Many(table) => table.take_key(key),
         }
     }
 
     /// Removes the last pair, if there is one.
+    #[inline(always)]
     pub fn detach(&mut self) -> Option<Entry>
         ensures pairs { entries_held self.old ≡ entries_held self.new ++ option_to_list result }
         ensures empty { IsNone result → entries_held self.old ≡ [] }
     {
         match self {
+            Held::One(one) => match one.kept.take() {
+                Some(last) => Some(last.entry()),
+                None => None,
+            },
             Held::Few(few) => few.detach(),
             Held::Many(table) => table.detach(),
         }

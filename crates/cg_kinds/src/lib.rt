@@ -12,8 +12,8 @@
 //!   have.
 //! - `listed`: the values of a list, at most `one` in place, a few of them `packed` in one vector,
 //!   or any number as `values`, in a column of sorts and one of numbers.
-//! - `pairs`: dictionaries and instances; `held`: their pairs, a `few` in a list or any number in a
-//!   table.
+//! - `pairs`: dictionaries and instances; `held`: their pairs, at most `one` in place, which
+//!   `one_pair` searches, a `few` in a list or any number in a table.
 //! - `table`: pairs in a map, in the order in which their keys came, each key and value as `nine`
 //!   bytes; `order`: that order, once the map has another; `slots`: its slots and gaps; `sums`: how
 //!   many pairs are in each block of slots; `gap`: what one slot holds, in four bytes.
@@ -32,6 +32,7 @@ mod list;
 mod listed;
 mod nine;
 mod one;
+mod one_pair;
 mod order;
 mod packed;
 mod pair;

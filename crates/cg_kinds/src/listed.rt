@@ -22,7 +22,7 @@ const FEW: usize = 64;
 /// taken move as two runs of bytes.
 #[derive(Drop)]
 pub enum Listed {
-    One(One),
+    One(One<Packed>),
     Few(Vec<Packed>),
     Many(Box<Values>),
 }
@@ -87,7 +87,7 @@ impl Listed {
         ensures { slice_get (items_listed self.now) i ≡ Some result }
     {
         match self {
-            Listed::One(one) => one.val(),
+            Listed::One(one) => one.get().val(),
             Listed::Few(few) => few[i].val(),
             Listed::Many(columns) => columns.val(i),
         }
@@ -120,7 +120,7 @@ impl Listed {
         ensures room { room_listed self.new ≡ room_listed self.old }
     {
         match self {
-            Listed::One(one) => one.set(val),
+            Listed::One(one) => one.kept = Some(Packed::new(val)),
             Listed::Few(few) => few[i] = Packed::new(val),
             Listed::Many(columns) => columns.set(i, val),
         }
@@ -135,8 +135,8 @@ impl Listed {
     {
         match self {
             Listed::One(one) => {
-                let val = one.val();
-                one.take();
+                let val = one.get().val();
+                one.kept = None;
                 val
             }
             Listed::Few(few) => few.remove(i).val(),
@@ -154,7 +154,10 @@ impl Listed {
         ensures none_room { IfNone result (room_listed self.new ≡ room_listed self.old) }
     {
         match self {
-            Listed::One(one) => one.take(),
+            Listed::One(one) => match one.kept.take() {
+                Some(last) => Some(last.val()),
+                None => None,
+            },
             Listed::Few(few) => match few.pop() {
                 Some(last) => Some(last.val()),
                 None => None,
@@ -225,7 +228,7 @@ impl Listed {
         ensures room { room_listed self.new ≡ room_listed self.old - 1 }
     {
         match self {
-            Listed::One(one) => one.set(val),
+            Listed::One(one) => one.kept = Some(Packed::new(val)),
             Listed::Few(few) => few.push_reserved(Packed::new(val)),
             Listed::Many(columns) => columns.push_reserved(val),
         }

@@ -1,82 +1,59 @@
-//! At most one value, as the shortest lists keep it.
-ghost use Rattle.std.specs.Prelude.{◌≡◌, ◌+◌, ◌<◌, ◌≤◌, length, map, take, IfOk, IsSome, Some, None, option_to_list, vec_capacity};
+//! At most one value or pair, as the shortest lists, dictionaries and instances keep it.
+ghost use Rattle.std.specs.Prelude.{◌≡◌, ◌+◌, ◌<◌, ◌≤◌, length, map, take, IfOk, IsSome, Some, option_to_list, vec_capacity};
 ghost use Rattle.cg_graph.specs.Value.{item, references};
 ghost use Rattle.cg_kind.specs.Calls.{AreItems, next_entries};
 
 use crate::kept::KeepsEntry;
 use crate::packed::Packed;
 use cg_kind::{Noted, ROOM};
-use cg_value::{Entry, Val};
+use cg_value::Entry;
 use std::alloc::{AllocError, Global};
-use std::marker::Model;
 
-/// No value or one, which lies in place and takes no block of memory.
+/// Nothing or one of these, which lies in place and takes no block of memory.
 #[derive(Drop)]
-pub struct One {
-    // Where the vector gets its block, once there are more values.
-    alloc: Global,
-    value: Option<Packed>,
+pub struct One<T> {
+    // Where a vector gets its block, once there are more.
+    pub alloc: Global,
+    pub kept: Option<T>,
 }
 
-impl Model for One {
-    ghost use Rattle.std.specs.Prelude.{Option};
-    ghost use Rattle.cg_value.specs.declared.Val.{Val};
-
-    ghost Value = { Option Val };
-
-    ghost view = { λ o. o.value };
-}
-
-impl One {
-    /// The value of the only item, if there is one.
-    pub fn of_items(alloc: Global, parts: &[Entry]) -> One
-        requires items { AreItems parts.now }
-        requires few { length parts.now ≤ 1 }
-        ensures { map item (option_to_list result) ≡ parts.now }
-    {
-        let value = match parts.first() {
-            Some(part) => Some(Packed::new(part.val)),
-            None => None,
-        };
-        One { alloc, value }
-    }
-
-    /// The number of values.
+impl<T: KeepsEntry> One<T> {
+    /// How many there are.
     #[inline(always)]
     pub fn len(&self) -> usize
-        ensures { result ≡ length (option_to_list self.now) }
+        ensures { result ≡ length (option_to_list self.now.kept) }
     {
-        if self.value.is_some() { 1 } else { 0 }
+        if self.kept.is_some() { 1 } else { 0 }
     }
 
-    /// The value.
+    /// What is there.
     #[inline(always)]
-    pub fn val(&self) -> Val
-        requires { IsSome self.now }
-        ensures { self.now ≡ Some result }
+    pub fn get(&self) -> &T
+        requires { IsSome self.now.kept }
+        ensures { self.now.kept ≡ Some result.now }
     {
-        match &self.value {
-            Some(value) => value.val(),
+        match &self.kept {
+            Some(kept) => kept,
             None => unreachable!(),
         }
     }
 
-    /// Goes over the item of the value from a position on, as `cg_kind::Kind::note_from` says it.
+    /// Visits its entry from a position on, as `cg_kind::Kind::note_from` specifies.
     #[inline(always)]
     pub fn note_from(&self, from: usize, found: &mut [u64]) -> Noted
-        requires within { from ≤ length (option_to_list self.now) }
+        requires within { from ≤ length (option_to_list self.now.kept) }
         requires room { ROOM ≤ length found.old }
         ensures next { result.next ≡
-            from + length (next_entries (map item (option_to_list self.now)) from) }
+            from + length (next_entries (map T.kept (option_to_list self.now.kept)) from) }
         ensures references { take result.references found.new ≡
-            references (next_entries (map item (option_to_list self.now)) from) }
+            references (next_entries (map T.kept (option_to_list self.now.kept)) from) }
         ensures few { result.references ≤ ROOM }
         ensures room { length found.new ≡ length found.old }
     {
-        match &self.value {
-            Some(value) if from == 0 => Noted {
+        match &self.kept {
+            Some(kept) if from == 0 => Noted {
                 next: 1,
-                references: value.note(found, 0),
+                references: kept.note(found, 0),
             },
             _ => Noted {
                 next: from,
@@ -84,37 +61,32 @@ impl One {
             },
         }
     }
+}
 
-    /// Puts a value over the one that is there, if there is one.
-    #[inline(always)]
-    pub fn set(&mut self, val: Val)
-        ensures { self.new ≡ Some val }
+impl One<Packed> {
+    /// The value of the only item, if there is one.
+    pub fn of_items(alloc: Global, parts: &[Entry]) -> One<Packed>
+        requires items { AreItems parts.now }
+        requires few { length parts.now ≤ 1 }
+        ensures { map item (option_to_list result.kept) ≡ parts.now }
     {
-        self.value = Some(Packed::new(val));
-    }
-
-    /// Takes the value, if there is one.
-    #[inline(always)]
-    pub fn take(&mut self) -> Option<Val>
-        ensures value { result ≡ self.old }
-        ensures gone { self.new ≡ None }
-    {
-        match self.value.take() {
-            Some(value) => Some(value.val()),
+        let kept = match parts.first() {
+            Some(part) => Some(Packed::new(part.val)),
             None => None,
-        }
+        };
+        One { alloc, kept }
     }
 
     /// A vector of the value, if there is one, with room for so many values in all. The value stays
     /// here too.
     pub fn in_vector(&self, room: usize) -> Result<Vec<Packed>, AllocError>
         requires { 0 < room }
-        ensures items { IfOk result (λ few. few.items ≡ option_to_list self.now) }
+        ensures items { IfOk result (λ few. few.items ≡ option_to_list self.now.kept) }
         ensures room { IfOk result (λ few. room ≤ vec_capacity few) }
     {
         let mut few = Vec::new(self.alloc);
         few.reserve(room)?;
-        if let Some(value) = &self.value {
+        if let Some(value) = &self.kept {
             few.push_reserved(Packed::new(value.val()));
         }
         Ok(few)
