@@ -4,7 +4,7 @@ use Rattle.std.proofs.lemmas.List.{length-map}
 use Rattle.cg_graph.specs.Value.{without_key, entry_at as entry_under}
 use Rattle.cg_kind.specs.Calls.{has_key}
 use Rattle.cg_kind.proofs.KeyLemmas.{Lacks, key_missing}
-use Rattle.cg_kinds.specs.Pairs.{pairs_of, pair_entry, ordered, picked, nothing, unboxed, IsOrderOf, IsSoundOrder}
+use Rattle.cg_kinds.specs.Pairs.{pairs_of, pair_entry, ordered, picked, unboxed, IsOrderOf, IsSoundOrder}
 use Rattle.cg_kinds.proofs.TableLemmas.{StandsIn, ordered_none, ordered_stands, picked_take, taken_as_long}
 use Rattle.cg_kinds.proofs.table.Table.take_key.Goals as goal
 use Rattle.cg_kinds.proofs.table.Table.take_key.Goals.{After-self-in-Some-1, After-from_residual}
