@@ -68,6 +68,7 @@ pub fn finalizers_of<B: Kind>(heap: &Heap<B>, script: &Script, object: u64) -> F
 }
 
 /// The finalizer of an object if it has not run. (PEP 442: a finalizer is called once.)
+#[inline(always)]
 pub fn finalizer_to_run<B: Kind>(heap: &Heap<B>, script: &Script, object: u64) -> Option<u32>
     requires { IsLive heap.now object }
     ensures { result ≡

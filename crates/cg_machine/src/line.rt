@@ -102,6 +102,7 @@ fn plain(text: &mut LineText, words: &str)
     text.push_str(words);
 }
 
+#[inline(always)]
 fn about(text: &mut LineText, words: &str, serial: u64)
     requires room { HasRoom text.old.bytes }
     requires few { length words.now ≤ 100 }

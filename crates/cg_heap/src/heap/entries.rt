@@ -103,6 +103,7 @@ impl<B: Kind> Heap<B> {
 
     /// Removes the last entry, whatever the kind. `None` exactly if there is none. The entry's
     /// references become outside holds.
+    #[inline(always)]
     pub fn detach(&mut self, object: u64) -> Option<Entry>
         requires live { IsLive self.old object }
         requires few { HasFewHolds self.old }
