@@ -12,7 +12,7 @@ use Rattle.cg_graph.specs.Places.{place_number, list_of, joins_list}
 use Rattle.cg_graph.proofs.Maps.{same_map, get-changed_same, get-changed_other, get-insert_same, get-insert_other}
 use Rattle.cg_arena.specs.declared.slot.Slot.{Slot}
 use Rattle.cg_arena.specs.declared.index.SlotIndex.{SlotIndex}
-use Rattle.cg_arena.specs.declared.ends.Ends.{Ends}
+use Rattle.cg_arena.specs.Links.{ListEnds}
 use Rattle.cg_arena.specs.Nodes.{Nodes, ArenaNode, IsPlace, with_node, counted_up, node_counted_up, count_in_list}
 use Rattle.cg_arena.specs.Slots.{before_in, after_in, serial_in, place_in_slot, node_in, node_of, link_to, with_after, after_of}
 use Rattle.cg_arena.specs.Links.{link_set, ends_joined, one_end}
@@ -35,7 +35,7 @@ no_value f None none = refl
 no_value f (Some x) none = absurd (cc)
 
 -- a missing serial has no row
-pub no_row_there : (s : Slab Slot) (ends : List Ends) (rows : List (ℕ × ℕ)) (spare : ℕ) (v : Nodes) → value_of s ends rows spare ≡ v → (t : ℕ) → fin.get v.nodes t ≡ None → row_of rows t ≡ None
+pub no_row_there : (s : Slab Slot) (ends : List ListEnds) (rows : List (ℕ × ℕ)) (spare : ℕ) (v : Nodes) → value_of s ends rows spare ≡ v → (t : ℕ) → fin.get v.nodes t ≡ None → row_of rows t ≡ None
 no_row_there s ends rows spare v view_is t none =
     no_value (λ k. node_in (get s k)) (row_of rows t)
     (sym (get-nodes_of rows s t) ∙ ap (λ (w : Nodes). fin.get w.nodes t) view_is ∙ none)
@@ -45,20 +45,20 @@ pub some_numbered : (p : ℕ) (o : Option Slot) → count_in_list p (place_in_sl
 some_numbered p None stands = absurd (omega (arith, stands))
 some_numbered p (Some c) stands = refl
 
-pub last_there : (cell : ℕ → Option Slot) (ends : ℕ → Ends) (chain : ℕ → List ℕ) (loose : Option ℕ) → IsSpelled cell ends chain loose → (q : ℕ) → q < 10
+pub last_there : (cell : ℕ → Option Slot) (ends : ℕ → ListEnds) (chain : ℕ → List ℕ) (loose : Option ℕ) → IsSpelled cell ends chain loose → (q : ℕ) → q < 10
     → (j : ℕ) → (ends q).last ≡ Some j → is_some (cell j) ≡ true
 last_there cell ends chain loose spelled q below j is =
     some_numbered q (cell j)
     (stands_placed cell ends chain loose spelled q j below
-    (last_of-stands (chain q) j (sym (ap (λ (e : Ends). e.last) (spelled.ended q below)) ∙ is)))
+    (last_of-stands (chain q) j (sym (ap (λ (e : ListEnds). e.last) (spelled.ended q below)) ∙ is)))
 
-module _ (s mid new : Slab Slot) (ends : List Ends) (x y : SlotIndex) (kept : IsKept s x ends) (spare : ℕ) (v : Nodes) (view_is : value_of s ends (rows_of s)
+module _ (s mid new : Slab Slot) (ends : List ListEnds) (x y : SlotIndex) (kept : IsKept s x ends) (spare : ℕ) (v : Nodes) (view_is : value_of s ends (rows_of s)
     spare ≡ v) (t k : ℕ) (c : Slot) (n : ArenaNode) (node_is : node_of c ≡ n) (serial_is : c.serial ≡ t) (after_is : after_of c
     ≡ None) (fresh : fin.get v.nodes t ≡ None) (k_is : k ≡ s.vacant_key) (roomy : 0 < v.room) (vacant : get s k ≡ None)
     (updated : Updates s mid s.vacant_key (Some c)) (len : slab_len mid ≡ slab_len s + 1) (few : slab_len mid < 2 ^ 64) (noted_below : HasRowsBelow y) (noted : LeadsTo y t k) (noted_others : (j u : ℕ)
     → serial_in (get s j) ≡ Some u → u ≢ t → LeadsTo x u j → LeadsTo y u j) (noted_rows : (u j : ℕ) → row_of y.rows.entries u ≡ Some j
     → (row_of x.rows.entries u ≡ Some j) ⊎ ((serial_in (get s j) ≡ Some u) ⊎ ((u ≡ t) × (j ≡ k)))) (q : ℕ) (q_is : q ≡ place_number n.place) (below : q < 10)
-    (before_is : c.previous ≡ link_to (ends_at ends q).last) (linked_is : new ≡ link_set with_after (ends_at ends q).last (Some k) mid) (e : Ends)
+    (before_is : c.previous ≡ link_to (ends_at ends q).last) (linked_is : new ≡ link_set with_after (ends_at ends q).last (Some k) mid) (e : ListEnds)
     (ends_are : e ≡ ends_joined (ends_at ends q) (one_end k)) where
   abbrev rows : List (ℕ × ℕ)
   rows = rows_of s
@@ -164,7 +164,7 @@ module _ (s mid new : Slab Slot) (ends : List Ends) (x y : SlotIndex) (kept : Is
 
   added_sound : IsSound new (slice_set ends q e) (rows_of new)
   added_sound =
-      let size : e.size ≡ (ends_at ends q).size + 1 = ap (λ (d : Ends). d.size) ends_are in
+      let size : e.size ≡ (ends_at ends q).size + 1 = ap (λ (d : ListEnds). d.size) ends_are in
       record {
         ten = length-set ends q e ∙ sound.ten;
         chain = appended_at q (k ∷ []) sound.chain;

@@ -6,7 +6,7 @@ use Rattle.cg_value.specs.declared.Place.{Place}
 use Rattle.cg_graph.specs.Holdings.{occurrences}
 use Rattle.cg_graph.specs.Places.{place_number, without_serial}
 use Rattle.cg_arena.specs.declared.slot.Slot.{Slot}
-use Rattle.cg_arena.specs.declared.ends.Ends.{Ends}
+use Rattle.cg_arena.specs.Links.{ListEnds}
 use Rattle.cg_arena.specs.Nodes.{count_in_list}
 use Rattle.cg_arena.specs.Slots.{before_in, after_in, place_in_slot}
 use Rattle.cg_arena.specs.Links.{IsLinked, first_or, last_or, ends_of, ends_without, ends_joined, one_end}
@@ -51,7 +51,7 @@ once_at (Some l) p k at = elim (cases_eq k l) [
   | inr differs ↦ omega (arith, stands-other p k l at differs)
 ]
 
-module _ (cell : ℕ → Option Slot) (ends : ℕ → Ends) (chain : ℕ → List ℕ) (loose : Option ℕ) (spelled : IsSpelled cell ends chain loose) where
+module _ (cell : ℕ → Option Slot) (ends : ℕ → ListEnds) (chain : ℕ → List ℕ) (loose : Option ℕ) (spelled : IsSpelled cell ends chain loose) where
   pub stands_once : (p j : ℕ) → p < 10 → occurrences j (chain p) ≤ 1
   stands_once p j below = omega (arith, spelled.standing p j below, once_at loose p j (place_in_slot (cell j)), numbered_once p (place_in_slot (cell j)))
 
@@ -71,7 +71,7 @@ module _ (cell : ℕ → Option Slot) (ends : ℕ → Ends) (chain : ℕ → Lis
   stands_placed p j below stands = omega (arith, stands, spelled.standing p j below, once_at loose p j (place_in_slot (cell j)), numbered_once p (place_in_slot (cell j)))
 
 -- the neighbours of a slot are in its chain
-module _ (cell : ℕ → Option Slot) (ends : ℕ → Ends) (chain : ℕ → List ℕ) (loose : Option ℕ) (spelled : IsSpelled cell ends chain loose) (k p : ℕ)
+module _ (cell : ℕ → Option Slot) (ends : ℕ → ListEnds) (chain : ℕ → List ℕ) (loose : Option ℕ) (spelled : IsSpelled cell ends chain loose) (k p : ℕ)
     (below : p < 10) (stood : 0 < occurrences k (chain p)) where
   parts : IsBetween k (chain p)
   parts = stands_between k (chain p) stood
@@ -89,7 +89,7 @@ module _ (cell : ℕ → Option Slot) (ends : ℕ → Ends) (chain : ℕ → Lis
   after_stands j is = omega (arith, in_parts j, first-stands parts.back j (sym around.1 ∙ is))
 
 -- a slot leaves its chain
-module _ (cell new : ℕ → Option Slot) (ends later : ℕ → Ends) (chain : ℕ → List ℕ) (spelled : IsSpelled cell ends chain None) (k p : ℕ) (place : Place)
+module _ (cell new : ℕ → Option Slot) (ends later : ℕ → ListEnds) (chain : ℕ → List ℕ) (spelled : IsSpelled cell ends chain None) (k p : ℕ) (place : Place)
     (below : p < 10) (place_is : place_in_slot (cell k) ≡ Some place) (number_is : place_number place ≡ p) (tie : IsTied cell new (before_in (cell k))
     (after_in (cell k))) (places : (j : ℕ) → place_in_slot (new j) ≡ place_in_slot (cell j)) (there : later p ≡ ends_without (before_in (cell k))
     (after_in (cell k)) (ends p)) (elsewhere : (r : ℕ) → r ≢ p → later r ≡ ends r) where
@@ -177,7 +177,7 @@ module _ (cell new : ℕ → Option Slot) (ends later : ℕ → Ends) (chain : �
       }
 
 -- a loose slot may change freely
-pub loose_spelled : (cell new : ℕ → Option Slot) (ends : ℕ → Ends) (chain : ℕ → List ℕ) (k : ℕ) → IsSpelled cell ends chain (Some k)
+pub loose_spelled : (cell new : ℕ → Option Slot) (ends : ℕ → ListEnds) (chain : ℕ → List ℕ) (k : ℕ) → IsSpelled cell ends chain (Some k)
     → ((j : ℕ) → j ≢ k → HasLinks cell new j) → ((j : ℕ) → j ≢ k → place_in_slot (new j) ≡ place_in_slot (cell j))
     → IsSpelled new ends chain (Some k)
 loose_spelled cell new ends chain k spelled links places =
@@ -200,7 +200,7 @@ loose_spelled cell new ends chain k spelled links places =
     }
 
 -- a vacant slot is in no chain, and may count as loose or not
-pub vacant_loose : (cell : ℕ → Option Slot) (ends : ℕ → Ends) (chain : ℕ → List ℕ) (k : ℕ) → cell k ≡ None → IsSpelled cell ends chain None → IsSpelled cell ends chain (Some k)
+pub vacant_loose : (cell : ℕ → Option Slot) (ends : ℕ → ListEnds) (chain : ℕ → List ℕ) (k : ℕ) → cell k ≡ None → IsSpelled cell ends chain None → IsSpelled cell ends chain (Some k)
 vacant_loose cell ends chain k vacant spelled =
     record {
       linked = spelled.linked;
@@ -215,7 +215,7 @@ vacant_loose cell ends chain k vacant spelled =
       ];
     }
 
-pub loose_vacant : (cell : ℕ → Option Slot) (ends : ℕ → Ends) (chain : ℕ → List ℕ) (k : ℕ) → cell k ≡ None → IsSpelled cell ends chain (Some k) → IsSpelled cell ends chain None
+pub loose_vacant : (cell : ℕ → Option Slot) (ends : ℕ → ListEnds) (chain : ℕ → List ℕ) (k : ℕ) → cell k ≡ None → IsSpelled cell ends chain (Some k) → IsSpelled cell ends chain None
 loose_vacant cell ends chain k vacant spelled =
     record {
       linked = spelled.linked;
@@ -240,7 +240,7 @@ pub appended-there : (q : ℕ) (ks : List ℕ) (chain : ℕ → List ℕ) (r : �
 appended-there q ks chain r differs = ap (λ b. if b then chain r ++ ks else chain r) (ne_eqb r q differs)
 
 -- a loose slot joins the end of a chain
-module _ (cell new : ℕ → Option Slot) (ends later : ℕ → Ends) (chain : ℕ → List ℕ) (k q : ℕ) (spelled : IsSpelled cell ends chain (Some k)) (place : Place)
+module _ (cell new : ℕ → Option Slot) (ends later : ℕ → ListEnds) (chain : ℕ → List ℕ) (k q : ℕ) (spelled : IsSpelled cell ends chain (Some k)) (place : Place)
     (below : q < 10) (place_is : place_in_slot (cell k) ≡ Some place) (number_is : place_number place ≡ q) (ends_it : after_in (cell k) ≡ None)
     (last : Option ℕ) (last_is : last ≡ (ends q).last) (tie : IsTied cell new last (Some k)) (places : (j : ℕ) → place_in_slot (new j) ≡ place_in_slot (cell j))
     (there : later q ≡ ends_joined (ends q) (one_end k)) (elsewhere : (r : ℕ) → r ≢ q → later r ≡ ends r) where
@@ -260,7 +260,7 @@ module _ (cell new : ℕ → Option Slot) (ends later : ℕ → Ends) (chain : �
   ]
 
   joins_tie : IsTied cell new (last_or None (chain q)) (first_or (k ∷ []) None)
-  joins_tie = subst (λ b. IsTied cell new b (Some k)) (last_is ∙ ap (λ (e : Ends). e.last) (spelled.ended q below)) tie
+  joins_tie = subst (λ b. IsTied cell new b (Some k)) (last_is ∙ ap (λ (e : ListEnds). e.last) (spelled.ended q below)) tie
 
   joined_chain : IsLinked new None (chain q ++ k ∷ []) None
   joined_chain = tied_chain cell new (chain q) (k ∷ []) None (before_in (cell k)) joins_tie joins_once (spelled.linked q below) (refl, ends_it, tt)

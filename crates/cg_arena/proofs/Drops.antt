@@ -9,7 +9,7 @@ use Rattle.cg_graph.specs.Holdings.{occurrences}
 use Rattle.cg_graph.specs.Places.{place_number, list_of, without_serial, leaves_list}
 use Rattle.cg_arena.specs.declared.slot.Slot.{Slot}
 use Rattle.cg_arena.specs.declared.index.SlotIndex.{SlotIndex}
-use Rattle.cg_arena.specs.declared.ends.Ends.{Ends}
+use Rattle.cg_arena.specs.Links.{ListEnds}
 use Rattle.cg_arena.specs.Nodes.{Nodes, without_node, place_in, place_of, count_in_list}
 use Rattle.cg_arena.specs.Slots.{before_in, after_in, serial_in, place_in_slot, node_in, before_of, after_of}
 use Rattle.cg_arena.specs.Links.{tied, ends_without}
@@ -29,7 +29,7 @@ use Rattle.cg_arena.proofs.Lookups.{list_is, lists_ten, with_serial}
 use Rattle.cg_arena.proofs.Adds.{some_numbered}
 
 -- a node leaves its list: its neighbours are tied, and the ends updated
-module _ (s new : Slab Slot) (ends : List Ends) (rows : List (ℕ × ℕ)) (sound : IsSound s ends rows) (t k : ℕ) (c : Slot) (row_is : row_of rows t ≡ Some k)
+module _ (s new : Slab Slot) (ends : List ListEnds) (rows : List (ℕ × ℕ)) (sound : IsSound s ends rows) (t k : ℕ) (c : Slot) (row_is : row_of rows t ≡ Some k)
     (slot_is : get s k ≡ Some c) (p : ℕ) (p_is : p ≡ place_number c.place) (below : p < 10) (tied_is : new ≡ tied (before_of c) (after_of c) s) where
   stood : occurrences k (sound.chain p) ≡ 1
   stood = sound.spelled.standing p k below ∙ ap (λ o. count_in_list p (place_in_slot o)) slot_is ∙ count_in_list-same p c.place (sym p_is)
@@ -68,7 +68,7 @@ module _ (s new : Slab Slot) (ends : List Ends) (rows : List (ℕ × ℕ)) (soun
   pub left_there : is_some (get new k) ≡ true
   left_there = ap (λ z. is_some (get z k)) tied_is ∙ there-tied (before_of c) (after_of c) s k ∙ ap is_some slot_is
 
-  module _ (e : Ends) (ends_are : e ≡ ends_without (before_of c) (after_of c) (ends_at ends p)) where
+  module _ (e : ListEnds) (ends_are : e ≡ ends_without (before_of c) (after_of c) (ends_at ends p)) where
     pub left_spelled : IsSpelled (get new) (ends_at (slice_set ends p e)) (λ r. without_serial k (sound.chain r)) (Some k)
     left_spelled =
         leaves_spelled (get s) (get new) (ends_at ends) (ends_at (slice_set ends p e)) sound.chain sound.spelled k p c.place below
@@ -80,12 +80,12 @@ module _ (s new : Slab Slot) (ends : List Ends) (rows : List (ℕ × ℕ)) (soun
 
     pub left_sizes : sizes (slice_set ends p e) + 1 ≡ sizes ends
     left_sizes =
-        let size : e.size ≡ (ends_at ends p).size - 1 = ap (λ (d : Ends). d.size) ends_are in
+        let size : e.size ≡ (ends_at ends p).size - 1 = ap (λ (d : ListEnds). d.size) ends_are in
         omega (arith, sizes-set ends sound.ten p below e, size, size_there)
 
-module _ (s mid new : Slab Slot) (ends : List Ends) (x y : SlotIndex) (kept : IsKept s x ends) (spare : ℕ) (v : Nodes) (view_is : value_of s ends (rows_of s)
+module _ (s mid new : Slab Slot) (ends : List ListEnds) (x y : SlotIndex) (kept : IsKept s x ends) (spare : ℕ) (v : Nodes) (view_is : value_of s ends (rows_of s)
     spare ≡ v) (t k : ℕ) (c : Slot) (row_is : row_of (rows_of s) t ≡ Some k) (slot_is : get s k ≡ Some c) (p : ℕ) (p_is : p ≡ place_number c.place) (below : p <
-    10) (tied_is : mid ≡ tied (before_of c) (after_of c) s) (e : Ends) (ends_are : e ≡ ends_without (before_of c) (after_of c) (ends_at ends p)) (updates :
+    10) (tied_is : mid ≡ tied (before_of c) (after_of c) s) (e : ListEnds) (ends_are : e ≡ ends_without (before_of c) (after_of c) (ends_at ends p)) (updates :
     Updates mid new k None) (len : slab_len new + 1 ≡ slab_len mid) (removed : IsIndex (λ j. if j == k then None else serial_in (get s j)) y) where
   abbrev rows : List (ℕ × ℕ)
   rows = rows_of s

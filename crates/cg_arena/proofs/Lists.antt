@@ -7,7 +7,7 @@ use Rattle.slab.specs.Slab.{Slab, get}
 use Rattle.cg_graph.specs.Holdings.{occurrences}
 use Rattle.cg_graph.specs.Places.{list_of, without_serial, leaves_list, joins_list, merge_lists}
 use Rattle.cg_arena.specs.declared.slot.Slot.{Slot}
-use Rattle.cg_arena.specs.declared.ends.Ends.{Ends}
+use Rattle.cg_arena.specs.Links.{ListEnds}
 use Rattle.cg_arena.specs.Nodes.{following, count_in_list}
 use Rattle.cg_arena.specs.Slots.{serial_in, place_in_slot}
 use Rattle.cg_arena.specs.Links.{chain_from, no_ends}
@@ -30,12 +30,12 @@ has_serial p None stands = absurd (omega (arith, stands))
 has_serial p (Some c) stands = (c.serial, refl)
 
 -- the list of a place is the serials of its chain
-pub list-at : (s : Slab Slot) (ends : List Ends) (chain : ℕ → List ℕ) (loose : Option ℕ) → length ends ≡ 10 → IsSpelled (get s) (ends_at ends) chain loose
+pub list-at : (s : Slab Slot) (ends : List ListEnds) (chain : ℕ → List ℕ) (loose : Option ℕ) → length ends ≡ 10 → IsSpelled (get s) (ends_at ends) chain loose
     → (r : ℕ) → r < 10 → list_of (map (serials_of s) ends) r ≡ serials s (chain r)
 unfolding serials_of
 list-at s ends chain loose ten spelled r below =
     get_or-map (serials_of s) ends r no_ends [] (omega (arith, ten, below))
-    ∙ ap (λ (e : Ends). serials s (chain_from s e.size e.first)) (spelled.ended r below)
+    ∙ ap (λ (e : ListEnds). serials s (chain_from s e.size e.first)) (spelled.ended r below)
     ∙ ap (serials s) (chain-read s None (chain r) (spelled.linked r below))
 
 -- ten lists are equal if each is

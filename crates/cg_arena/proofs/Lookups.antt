@@ -10,7 +10,7 @@ use Rattle.cg_graph.specs.Places.{place_number, list_of}
 use Rattle.cg_graph.proofs.Maps.{same_map}
 use Rattle.cg_arena.specs.declared.slot.Slot.{Slot}
 use Rattle.cg_arena.specs.declared.index.SlotIndex.{SlotIndex}
-use Rattle.cg_arena.specs.declared.ends.Ends.{Ends}
+use Rattle.cg_arena.specs.Links.{ListEnds}
 use Rattle.cg_arena.specs.Nodes.{Nodes, ArenaNode, IsPlace, IsListed, following, place_in, place_of, no_nodes, count_in_list}
 use Rattle.cg_arena.specs.Slots.{after_in, serial_in, place_in_slot, node_in, node_of, after_of}
 use Rattle.cg_arena.specs.Links.{first_or, no_ends, IsLinked}
@@ -40,7 +40,7 @@ first-serials s (k ∷ ks) there =
     let found = there k (omega (arith, occurrences-cons k k ks, one-same k k refl)) in
     serial_found (get s k) found.0 found.1 ∙ ap Some (sym (ap (λ o. unwrap_or o 0) found.1))
 
-module _ (s : Slab Slot) (ends : List Ends) (rows : List (ℕ × ℕ)) (spare : ℕ) (v : Nodes) (view_is : value_of s ends rows spare ≡ v) (sound : IsSound s ends rows) where
+module _ (s : Slab Slot) (ends : List ListEnds) (rows : List (ℕ × ℕ)) (spare : ℕ) (v : Nodes) (view_is : value_of s ends rows spare ≡ v) (sound : IsSound s ends rows) where
   pub lists_ten : length v.lists ≡ 10
   lists_ten = ap (λ (w : Nodes). length w.lists) (sym view_is) ∙ length-map ends (serials_of s) ∙ sound.ten
 
@@ -52,13 +52,13 @@ module _ (s : Slab Slot) (ends : List Ends) (rows : List (ℕ × ℕ)) (spare : 
 
   pub first_is : (p : ℕ) → p < 10 → serial_of_slot s (ends_at ends p).first ≡ slice_get (list_of v.lists p) 0
   first_is p below =
-      ap (λ (e : Ends). serial_of_slot s e.first) (sound.spelled.ended p below)
+      ap (λ (e : ListEnds). serial_of_slot s e.first) (sound.spelled.ended p below)
       ∙ first-serials s (sound.chain p) (λ j. with_serial j p below)
       ∙ ap (λ xs. slice_get xs 0) (sym (list_is p below))
 
   pub size_is : (p : ℕ) → p < 10 → (ends_at ends p).size ≡ length (list_of v.lists p)
   size_is p below =
-      ap (λ (e : Ends). e.size) (sound.spelled.ended p below)
+      ap (λ (e : ListEnds). e.size) (sound.spelled.ended p below)
       ∙ sym (length-map (sound.chain p) (serial_at s))
       ∙ ap length (sym (list_is p below))
 
@@ -129,11 +129,11 @@ module _ (s : Slab Slot) (ends : List Ends) (rows : List (ℕ × ℕ)) (spare : 
           ∙ sym (ap (count_of_node p) (node_here s ends rows spare v view_is t k found.0 row_is found.1))
 
 -- an arena without nodes
-module _ (s : Slab Slot) (e : Ends) (x : SlotIndex) (vacant : s.slots ≡ []) (ends_are : e ≡ no_ends) (no_rows : x.rows.entries ≡ []) where
+module _ (s : Slab Slot) (e : ListEnds) (x : SlotIndex) (vacant : s.slots ≡ []) (ends_are : e ≡ no_ends) (no_rows : x.rows.entries ≡ []) where
   abbrev rows : List (ℕ × ℕ)
   rows = rows_of s
 
-  abbrev ten_ends : List Ends
+  abbrev ten_ends : List ListEnds
   ten_ends = replicate 10 e
 
   nothing_at : (k : ℕ) → get s k ≡ None
@@ -163,7 +163,7 @@ module _ (s : Slab Slot) (e : Ends) (x : SlotIndex) (vacant : s.slots ≡ []) (e
           rowed = λ t k is. let none : None ≡ Some k = sym (no_row t) ∙ is in absurd (cc);
         };
         placed = λ k p is. let none : None ≡ Some p = sym (ap place_in_slot (nothing_at k)) ∙ is in absurd (cc);
-        counted = ap (λ x. sum_by (λ (d : Ends). d.size) (replicate 10 x)) ends_are ∙ sym no_len;
+        counted = ap (λ x. sum_by (λ (d : ListEnds). d.size) (replicate 10 x)) ends_are ∙ sym no_len;
         few = omega (arith, no_len);
       }
 

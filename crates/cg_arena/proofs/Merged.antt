@@ -6,7 +6,7 @@ use Rattle.cg_value.specs.declared.Place.{Place}
 use Rattle.cg_graph.specs.Holdings.{occurrences}
 use Rattle.cg_graph.specs.Places.{place_number}
 use Rattle.cg_arena.specs.declared.slot.Slot.{Slot}
-use Rattle.cg_arena.specs.declared.ends.Ends.{Ends}
+use Rattle.cg_arena.specs.Links.{ListEnds}
 use Rattle.cg_arena.specs.Nodes.{count_in_list}
 use Rattle.cg_arena.specs.Slots.{place_in_slot}
 use Rattle.cg_arena.specs.Links.{IsLinked, first_or, last_or, ends_of, ends_joined, no_ends}
@@ -46,7 +46,7 @@ which p q r = elim (cases_eq r q) [
   | inr not_to ↦ elim (cases_eq r p) [ inl from ↦ From from | inr not_from ↦ Other not_to not_from ]
 ]
 
-module _ (cell placed new : ℕ → Option Slot) (ends later : ℕ → Ends) (chain : ℕ → List ℕ) (spelled : IsSpelled cell ends chain None) (p q : ℕ) (place : Place)
+module _ (cell placed new : ℕ → Option Slot) (ends later : ℕ → ListEnds) (chain : ℕ → List ℕ) (spelled : IsSpelled cell ends chain None) (p q : ℕ) (place : Place)
     (below_p : p < 10) (below_q : q < 10) (differ : p ≢ q) (number_is : place_number place ≡ q) (links : (j : ℕ) → HasLinks cell placed j) (among : (j : ℕ)
     → 0 < occurrences j (chain p) → place_in_slot (placed j) ≡ Some place) (aside : (j : ℕ) → occurrences j (chain p) ≡ 0 → place_in_slot (placed j)
     ≡ place_in_slot (cell j)) (last first : Option ℕ) (last_is : last ≡ (ends q).last) (first_is : first ≡ (ends p).first) (tie : IsTied placed new last first)
@@ -60,8 +60,8 @@ module _ (cell placed new : ℕ → Option Slot) (ends later : ℕ → Ends) (ch
 
   merge_tie : IsTied placed new (last_or None (chain q)) (first_or (chain p) None)
   merge_tie =
-      subst (λ b. IsTied placed new b (first_or (chain p) None)) (last_is ∙ ap (λ (e : Ends). e.last) (spelled.ended q below_q))
-      (subst (λ a. IsTied placed new last a) (first_is ∙ ap (λ (e : Ends). e.first) (spelled.ended p below_p)) tie)
+      subst (λ b. IsTied placed new b (first_or (chain p) None)) (last_is ∙ ap (λ (e : ListEnds). e.last) (spelled.ended q below_q))
+      (subst (λ a. IsTied placed new last a) (first_is ∙ ap (λ (e : ListEnds). e.first) (spelled.ended p below_p)) tie)
 
   one_chain : IsLinked new None (chain q ++ chain p) None
   one_chain = tied_chain placed new (chain q) (chain p) None None merge_tie merge_once (linked_placed q below_q) (linked_placed p below_p)

@@ -10,7 +10,7 @@ use Rattle.cg_graph.specs.Holdings.{occurrences}
 use Rattle.cg_graph.specs.Places.{place_number, list_of, merge_lists}
 use Rattle.cg_arena.specs.declared.slot.Slot.{Slot}
 use Rattle.cg_arena.specs.declared.index.SlotIndex.{SlotIndex}
-use Rattle.cg_arena.specs.declared.ends.Ends.{Ends}
+use Rattle.cg_arena.specs.Links.{ListEnds}
 use Rattle.cg_arena.specs.Nodes.{Nodes, IsPlace, with_lists_merged, place_merged, node_placed, count_in_list}
 use Rattle.cg_arena.specs.Slots.{before_in, after_in, serial_in, place_in_slot, node_in, node_of, with_place}
 use Rattle.cg_arena.specs.Links.{tied, all_placed, chain_from, ends_joined, no_ends}
@@ -30,13 +30,13 @@ use Rattle.cg_arena.proofs.Lookups.{list_is, lists_ten}
 use Rattle.cg_arena.proofs.Adds.{some_numbered, last_there}
 
 -- the sizes of two lists add up without overflow
-pub sizes_fit : (s : Slab Slot) (ends : List Ends) (rows : List (ℕ × ℕ)) → IsSound s ends rows → (p q : ℕ) → p < 10 → q < 10 → p ≢ q → (ends_at ends q).size + (ends_at ends p).size < 2 ^ 64
+pub sizes_fit : (s : Slab Slot) (ends : List ListEnds) (rows : List (ℕ × ℕ)) → IsSound s ends rows → (p q : ℕ) → p < 10 → q < 10 → p ≢ q → (ends_at ends q).size + (ends_at ends p).size < 2 ^ 64
 sizes_fit s ends rows sound p q below_p below_q differ = omega (arith, two_sizes ends p q sound.ten below_p below_q differ, sound.counted, sound.few)
 
-module _ (s placed new : Slab Slot) (ends : List Ends) (x : SlotIndex) (kept : IsKept s x ends) (spare : ℕ) (v : Nodes) (view_is : value_of s ends (rows_of s)
+module _ (s placed new : Slab Slot) (ends : List ListEnds) (x : SlotIndex) (kept : IsKept s x ends) (spare : ℕ) (v : Nodes) (view_is : value_of s ends (rows_of s)
     spare ≡ v) (from to : Place) (p q : ℕ) (p_is : p ≡ place_number from) (q_is : q ≡ place_number to) (below_p : p < 10) (below_q : q < 10) (numbers_differ :
     place_number from ≢ place_number to) (placed_is : placed ≡ all_placed (chain_from s (ends_at ends p).size (ends_at ends p).first) to s) (tied_is : new
-    ≡ tied (ends_at ends q).last (ends_at ends p).first placed) (e : Ends) (ends_are : e ≡ ends_joined (ends_at ends q) (ends_at ends p)) (none : Ends)
+    ≡ tied (ends_at ends q).last (ends_at ends p).first placed) (e : ListEnds) (ends_are : e ≡ ends_joined (ends_at ends q) (ends_at ends p)) (none : ListEnds)
     (none_is : none ≡ no_ends) where
   abbrev rows : List (ℕ × ℕ)
   rows = rows_of s
@@ -48,7 +48,7 @@ module _ (s placed new : Slab Slot) (ends : List Ends) (x : SlotIndex) (kept : I
   differ same = numbers_differ (sym p_is ∙ same ∙ q_is)
 
   chain_is : chain_from s (ends_at ends p).size (ends_at ends p).first ≡ sound.chain p
-  chain_is = ap (λ (d : Ends). chain_from s d.size d.first) (sound.spelled.ended p below_p) ∙ chain-read s None (sound.chain p) (sound.spelled.linked p below_p)
+  chain_is = ap (λ (d : ListEnds). chain_from s d.size d.first) (sound.spelled.ended p below_p) ∙ chain-read s None (sound.chain p) (sound.spelled.linked p below_p)
 
   all_are : placed ≡ all_placed (sound.chain p) to s
   all_are = placed_is ∙ ap (λ ks. all_placed ks to s) chain_is
@@ -72,7 +72,7 @@ module _ (s placed new : Slab Slot) (ends : List Ends) (x : SlotIndex) (kept : I
   aside j absent = ap (λ z. get z j) all_are ∙ get-all_placed_aside (sound.chain p) to s j absent
 
   first_stands : (j : ℕ) → (ends_at ends p).first ≡ Some j → 0 < occurrences j (sound.chain p)
-  first_stands j is = first-stands (sound.chain p) j (sym (ap (λ (d : Ends). d.first) (sound.spelled.ended p below_p)) ∙ is)
+  first_stands j is = first-stands (sound.chain p) j (sym (ap (λ (d : ListEnds). d.first) (sound.spelled.ended p below_p)) ∙ is)
 
   all_in_place : (j : ℕ) (r : Place) → place_in_slot (get placed j) ≡ Some r → IsPlace r × (j < 2 ^ 32 - 1)
   all_in_place j r is = elim (cases_eq (occurrences j (sound.chain p)) 0) [
@@ -104,7 +104,7 @@ module _ (s placed new : Slab Slot) (ends : List Ends) (x : SlotIndex) (kept : I
   nodes : (j : ℕ) → node_in (get new j) ≡ node_in (get placed j)
   nodes j = ap (λ z. node_in (get z j)) tied_is ∙ nodes-tied (ends_at ends q).last (ends_at ends p).first placed j
 
-  abbrev new_ends : List Ends
+  abbrev new_ends : List ListEnds
   new_ends = slice_set (slice_set ends q e) p none
 
   joined_ten : length (slice_set ends q e) ≡ 10
@@ -125,9 +125,9 @@ module _ (s placed new : Slab Slot) (ends : List Ends) (x : SlotIndex) (kept : I
 
   merged_sound : IsSound new (slice_set (slice_set ends q e) p none) rows
   merged_sound =
-      let size : e.size ≡ (ends_at ends q).size + (ends_at ends p).size = ap (λ (d : Ends). d.size) ends_are in
-      let nothing : none.size ≡ 0 = ap (λ (d : Ends). d.size) none_is in
-      let still : (ends_at (slice_set ends q e) p).size ≡ (ends_at ends p).size = ap (λ (d : Ends). d.size) (ends_set-other ends q p e differ) in
+      let size : e.size ≡ (ends_at ends q).size + (ends_at ends p).size = ap (λ (d : ListEnds). d.size) ends_are in
+      let nothing : none.size ≡ 0 = ap (λ (d : ListEnds). d.size) none_is in
+      let still : (ends_at (slice_set ends q e) p).size ≡ (ends_at ends p).size = ap (λ (d : ListEnds). d.size) (ends_set-other ends q p e differ) in
       record {
         ten = new_ten;
         chain = merged_chain p q sound.chain;

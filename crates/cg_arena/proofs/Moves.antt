@@ -9,7 +9,7 @@ use Rattle.cg_graph.specs.Maps.{changed}
 use Rattle.cg_graph.specs.Places.{place_number, list_of, without_serial, leaves_list, move_between}
 use Rattle.cg_arena.specs.declared.slot.Slot.{Slot}
 use Rattle.cg_arena.specs.declared.index.SlotIndex.{SlotIndex}
-use Rattle.cg_arena.specs.declared.ends.Ends.{Ends}
+use Rattle.cg_arena.specs.Links.{ListEnds}
 use Rattle.cg_arena.specs.Nodes.{Nodes, IsPlace, with_node_moved, node_placed, place_in, place_of}
 use Rattle.cg_arena.specs.Slots.{before_in, after_in, serial_in, place_in_slot, node_in, placed_last, with_after, before_of, after_of}
 use Rattle.cg_arena.specs.Links.{rewritten, tied, link_set, ends_without, ends_joined, one_end}
@@ -30,9 +30,9 @@ use Rattle.cg_arena.proofs.Drops.{absent, left_shape, left_places, left_nodes, l
 
 -- In s the node leaves its list, giving `left`; then it gets its place and the links of the last of the other list,
 -- giving `placed`; then the slot before it names it.
-module _ (s left placed new : Slab Slot) (ends : List Ends) (x : SlotIndex) (kept : IsKept s x ends) (spare : ℕ) (v : Nodes)
+module _ (s left placed new : Slab Slot) (ends : List ListEnds) (x : SlotIndex) (kept : IsKept s x ends) (spare : ℕ) (v : Nodes)
     (view_is : value_of s ends (rows_of s) spare ≡ v) (t k : ℕ) (c : Slot) (row_is : row_of (rows_of s) t ≡ Some k) (slot_is : get s k ≡ Some c) (p : ℕ)
-    (p_is : p ≡ place_number c.place) (below_p : p < 10) (left_is : left ≡ tied (before_of c) (after_of c) s) (d : Ends) (d_is : d ≡ ends_without (before_of c)
+    (p_is : p ≡ place_number c.place) (below_p : p < 10) (left_is : left ≡ tied (before_of c) (after_of c) s) (d : ListEnds) (d_is : d ≡ ends_without (before_of c)
     (after_of c) (ends_at ends p)) (place : Place) (q : ℕ) (q_is : q ≡ place_number place) (below_q : q < 10)
     (placed_is : placed ≡ rewritten (placed_last place (ends_at (slice_set ends p d) q).last) k left) where
   abbrev rows : List (ℕ × ℕ)
@@ -41,7 +41,7 @@ module _ (s left placed new : Slab Slot) (ends : List Ends) (x : SlotIndex) (kep
   abbrev sound : IsSound s ends (rows_of s)
   sound = kept.sound
 
-  abbrev between_ends : List Ends
+  abbrev between_ends : List ListEnds
   between_ends = slice_set ends p d
 
   abbrev between_chain : ℕ → List ℕ
@@ -89,7 +89,7 @@ module _ (s left placed new : Slab Slot) (ends : List Ends) (x : SlotIndex) (kep
   pub room_for_one : (ends_at between_ends q).size + 1 < 2 ^ 64
   room_for_one = omega (arith, size_within between_ends between_ten q below_q, between_sizes, sound.counted, sound.few)
 
-  module _ (linked_is : new ≡ link_set with_after (ends_at between_ends q).last (Some k) placed) (e : Ends) (ends_are : e ≡ ends_joined (ends_at between_ends q) (one_end k)) where
+  module _ (linked_is : new ≡ link_set with_after (ends_at between_ends q).last (Some k) placed) (e : ListEnds) (ends_are : e ≡ ends_joined (ends_at between_ends q) (one_end k)) where
     tie : IsTied (get placed) (get new) (ends_at between_ends q).last (Some k)
     tie =
         subst (λ z. IsTied (get placed) (get z) (ends_at between_ends q).last (Some k)) (sym linked_is)
@@ -115,7 +115,7 @@ module _ (s left placed new : Slab Slot) (ends : List Ends) (x : SlotIndex) (kep
 
     moved_sound : IsSound new (slice_set (slice_set ends p d) q e) rows
     moved_sound =
-        let size : e.size ≡ (ends_at between_ends q).size + 1 = ap (λ (x : Ends). x.size) ends_are in
+        let size : e.size ≡ (ends_at between_ends q).size + 1 = ap (λ (x : ListEnds). x.size) ends_are in
         record {
           ten = length-set between_ends q e ∙ between_ten;
           chain = appended_at q (k ∷ []) between_chain;

@@ -3,7 +3,7 @@ use Rattle.std.proofs.Common.{◌≡◌, ℕ, List, map, sym, ap, ◌∙◌, sub
 use Rattle.slab.specs.Slab.{Slab, get, slab_len}
 use Rattle.cg_arena.specs.declared.slot.Slot.{Slot}
 use Rattle.cg_arena.specs.declared.index.SlotIndex.{SlotIndex}
-use Rattle.cg_arena.specs.declared.ends.Ends.{Ends}
+use Rattle.cg_arena.specs.Links.{ListEnds}
 use Rattle.cg_arena.specs.Nodes.{Nodes}
 use Rattle.cg_arena.specs.Slots.{before_in, after_in, serial_in, place_in_slot, node_in}
 use Rattle.cg_arena.specs.Table.{nodes_of, rows_of, serials_of, room_of, IsSound}
@@ -12,7 +12,7 @@ use Rattle.cg_arena.proofs.Indexes.{index_still}
 use Rattle.cg_arena.proofs.Rows.{nodes-same}
 use Rattle.cg_arena.proofs.Sound.{value_of, sound_still, lists_still}
 
-module _ (s new : Slab Slot) (ends : List Ends) (x y : SlotIndex) (kept : IsKept s x ends) (rest : new ≡ record s { capacity = new.capacity }) (indexed : IsIndexOf s y) where
+module _ (s new : Slab Slot) (ends : List ListEnds) (x y : SlotIndex) (kept : IsKept s x ends) (rest : new ≡ record s { capacity = new.capacity }) (indexed : IsIndexOf s y) where
   slots_same : (j : ℕ) → get new j ≡ get s j
   slots_same j = ap (λ z. get z j) rest
 

@@ -13,7 +13,7 @@ use Rattle.cg_arena.specs.declared.slot.Slot.{Slot}
 use Rattle.cg_arena.specs.declared.slot.Marks.{Marks}
 use Rattle.cg_arena.specs.declared.slot.Marks.TheVariants.{Neither, Classed, Finalized, Both}
 use Rattle.cg_arena.specs.declared.index.SlotIndex.{SlotIndex}
-use Rattle.cg_arena.specs.declared.ends.Ends.{Ends}
+use Rattle.cg_arena.specs.Links.{ListEnds}
 use Rattle.cg_arena.specs.Nodes.{Nodes, ArenaNode, HasNode, IsPlace, count_in, count_of, with_node_changed, node_finalized, node_counted_up, node_counted_down, counted_up, counted_down, count_in_list}
 use Rattle.cg_arena.specs.Slots.{before_in, after_in, serial_in, place_in_slot, node_in, node_of, before_of, after_of, with_count, with_mark}
 use Rattle.cg_arena.specs.Links.{rewritten}
@@ -28,11 +28,11 @@ use Rattle.cg_arena.proofs.Rows.{get-nodes_of, nodes-changed}
 use Rattle.cg_arena.proofs.Lists.{serials-same, list-at, ten_lists}
 
 -- the value of given fields
-abbrev pub value_of : Slab Slot → List Ends → List (ℕ × ℕ) → ℕ → Nodes
+abbrev pub value_of : Slab Slot → List ListEnds → List (ℕ × ℕ) → ℕ → Nodes
 value_of s ends rows spare = record { nodes = nodes_of rows s; lists = map (serials_of s) ends; room = room_of spare s }
 
 -- the fields satisfy the invariant, and that is their value
-pub record StandsFor (s : Slab Slot) (ends : List Ends) (x : SlotIndex) (spare : ℕ) (v : Nodes) : Type 0 where
+pub record StandsFor (s : Slab Slot) (ends : List ListEnds) (x : SlotIndex) (spare : ℕ) (v : Nodes) : Type 0 where
   pub kept : IsKept s x ends
   pub view : value_of s ends (rows_of s) spare ≡ v
 
@@ -47,7 +47,7 @@ pub some_serial : (o : Option Slot) (t : ℕ) → serial_in o ≡ Some t → IsS
 some_serial None t is = absurd (cc)
 some_serial (Some c) t is = refl
 
-module _ (s : Slab Slot) (ends : List Ends) (rows : List (ℕ × ℕ)) (spare : ℕ) (v : Nodes) (view_is : value_of s ends rows spare ≡ v) (t : ℕ) where
+module _ (s : Slab Slot) (ends : List ListEnds) (rows : List (ℕ × ℕ)) (spare : ℕ) (v : Nodes) (view_is : value_of s ends rows spare ≡ v) (t : ℕ) where
   -- a serial with a node has a row
   pub row_there : HasNode v t → IsSome (row_of rows t)
   row_there has =
@@ -76,14 +76,14 @@ some_value None some = absurd (cc)
 some_value (Some x) some = (x, refl)
 
 -- a row names an occupied slot
-pub slot_there : (s : Slab Slot) (ends : List Ends) (rows : List (ℕ × ℕ)) → IsSound s ends rows → (t k : ℕ) → row_of rows t ≡ Some k → IsSome (get s k)
+pub slot_there : (s : Slab Slot) (ends : List ListEnds) (rows : List (ℕ × ℕ)) → IsSound s ends rows → (t k : ℕ) → row_of rows t ≡ Some k → IsSome (get s k)
 slot_there s ends rows sound t k row_is = some_serial (get s k) t (sound.names.rowed t k row_is)
 
 -- an occupied slot's place has a number below 10
-pub slot_placed : (s : Slab Slot) (ends : List Ends) (rows : List (ℕ × ℕ)) → IsSound s ends rows → (k : ℕ) (c : Slot) → get s k ≡ Some c → IsPlace c.place
+pub slot_placed : (s : Slab Slot) (ends : List ListEnds) (rows : List (ℕ × ℕ)) → IsSound s ends rows → (k : ℕ) (c : Slot) → get s k ≡ Some c → IsPlace c.place
 slot_placed s ends rows sound k c is = (sound.placed k c.place (ap place_in_slot is)).0
 
-spelled_still : (cell new : ℕ → Option Slot) (ends : ℕ → Ends) (chain : ℕ → List ℕ) → ((j : ℕ) → HasLinks cell new j) → ((j : ℕ) → place_in_slot (new j)
+spelled_still : (cell new : ℕ → Option Slot) (ends : ℕ → ListEnds) (chain : ℕ → List ℕ) → ((j : ℕ) → HasLinks cell new j) → ((j : ℕ) → place_in_slot (new j)
     ≡ place_in_slot (cell j)) → IsSpelled cell ends chain None → IsSpelled new ends chain None
 spelled_still cell new ends chain links places spelled =
     record {
@@ -100,7 +100,7 @@ named_still serial new row same names =
     }
 
 -- links, places and serials are unchanged
-module _ (s new : Slab Slot) (ends : List Ends) (rows : List (ℕ × ℕ)) (sound : IsSound s ends rows) (links : (j : ℕ) → HasLinks (get s) (get new) j)
+module _ (s new : Slab Slot) (ends : List ListEnds) (rows : List (ℕ × ℕ)) (sound : IsSound s ends rows) (links : (j : ℕ) → HasLinks (get s) (get new) j)
     (places : (j : ℕ) → place_in_slot (get new j) ≡ place_in_slot (get s j)) (names : (j : ℕ) → serial_in (get new j) ≡ serial_in (get s j)) (len : slab_len new
     ≡ slab_len s) where
   pub sound_still : IsSound new ends rows
@@ -128,19 +128,19 @@ module _ (s new : Slab Slot) (ends : List Ends) (rows : List (ℕ × ℕ)) (soun
 
 -- all serials are in their old slots
 module _ (s new : Slab Slot) (shape : SameShape s new) where
-  pub kept_by : (x : SlotIndex) (ends later : List Ends) → IsKept s x ends → IsSound new later (rows_of s) → IsKept new x later
+  pub kept_by : (x : SlotIndex) (ends later : List ListEnds) → IsKept s x ends → IsSound new later (rows_of s) → IsKept new x later
   kept_by x ends later kept sound =
       record {
         sound = subst (IsSound new later) (sym shape.rows) sound;
         indexed = index_still (λ k. serial_in (get s k)) (λ k. serial_in (get new k)) x shape.serials kept.indexed;
       }
 
-  pub seen_by : (ends : List Ends) (spare : ℕ) (v : Nodes) → value_of new ends (rows_of s) spare ≡ v → value_of new ends (rows_of new) spare ≡ v
+  pub seen_by : (ends : List ListEnds) (spare : ℕ) (v : Nodes) → value_of new ends (rows_of s) spare ≡ v → value_of new ends (rows_of new) spare ≡ v
   seen_by ends spare v is = ap (λ rows. value_of new ends rows spare) shape.rows ∙ is
 
 -- one field of one node is written
 module _ (f : Slot → Slot) (befores : (x : Slot) → before_of (f x) ≡ before_of x) (afters : (x : Slot) → after_of (f x) ≡ after_of x)
-    (serial_same : (x : Slot) → (f x).serial ≡ x.serial) (place_same : (x : Slot) → (f x).place ≡ x.place) (s : Slab Slot) (ends : List Ends) (x : SlotIndex)
+    (serial_same : (x : Slot) → (f x).serial ≡ x.serial) (place_same : (x : Slot) → (f x).place ≡ x.place) (s : Slab Slot) (ends : List ListEnds) (x : SlotIndex)
     (kept : IsKept s x ends) (k : ℕ) where
   abbrev rows : List (ℕ × ℕ)
   rows = rows_of s
@@ -223,7 +223,7 @@ counted_there None counted = absurd (omega (arith, counted))
 counted_there (Some n) counted = refl
 
 -- the index, and a serial whose slot is found
-module _ (s : Slab Slot) (ends : List Ends) (x : SlotIndex) (kept : IsKept s x ends) where
+module _ (s : Slab Slot) (ends : List ListEnds) (x : SlotIndex) (kept : IsKept s x ends) where
   pub index_kept : IsIndexOf s x
   index_kept = record { finds = kept.indexed; names = kept.sound.names }
 

@@ -4,7 +4,7 @@ use Rattle.cg_arena.specs.declared.hints.Hints.{Hints}
 use Rattle.cg_arena.specs.declared.index.SlotIndex.{SlotIndex}
 use Rattle.slab.specs.Slab.{Slab, get}
 use Rattle.cg_arena.specs.declared.slot.Slot.{Slot}
-use Rattle.cg_arena.specs.declared.ends.Ends.{Ends}
+use Rattle.cg_arena.specs.Links.{ListEnds}
 use Rattle.cg_arena.specs.Slots.{serial_in}
 use Rattle.cg_arena.specs.Table.{row_of, rows_of, IsNamed, IsSound}
 
@@ -49,6 +49,6 @@ pub record HasRow (slots : Slab Slot) (x : SlotIndex) (serial : ℕ) : Type 0 wh
   pub serial_is : slot.serial ≡ serial
 
 -- the invariant of an arena's fields: its chains, and the index of its slots
-pub record IsKept (slots : Slab Slot) (index : SlotIndex) (ends : List Ends) : Type 0 where
+pub record IsKept (slots : Slab Slot) (index : SlotIndex) (ends : List ListEnds) : Type 0 where
   pub sound : IsSound slots ends (rows_of slots)
   pub indexed : IsIndex (λ k. serial_in (get slots k)) index

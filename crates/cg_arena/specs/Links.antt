@@ -1,9 +1,9 @@
 -- Chains of slots: what the links spell, and what link updates write.
-use Rattle.std.specs.Prelude.{◌≡◌, ℕ, zero, suc, ◌+◌, ◌-◌, List, [], ◌∷◌, length, Option, Some, None, option_map, slice_set}
+use Rattle.std.specs.Prelude.{◌≡◌, ℕ, zero, suc, ◌+◌, ◌-◌, List, [], ◌∷◌, length, Option, Some, None, option_map, slice_set, refl}
+use Rattle.std.specs.Coded.{Coded, code_by, coded×, coded_ℕ, coded_option}
 use Rattle.slab.specs.Slab.{Slab, get}
 use Rattle.cg_value.specs.declared.Place.{Place}
 use Rattle.cg_arena.specs.declared.slot.Slot.{Slot}
-use Rattle.cg_arena.specs.declared.ends.Ends.{Ends}
 use Rattle.cg_arena.specs.Slots.{before_in, after_in, with_before, with_after, with_place}
 
 -- the slots with one of them changed, if it is occupied
@@ -51,11 +51,27 @@ IsLinked cell before [] after = Unit {0}
 IsLinked cell before (k ∷ ks) after =
     (before_in (cell k) ≡ before) × (after_in (cell k) ≡ first_or ks after) × IsLinked cell (Some k) ks after
 
+-- the ends of a list of slots, and its size
+pub record ListEnds : Type 0 where
+  pub first : Option ℕ
+  pub last : Option ℕ
+  pub size : ℕ
+
+-- they are stored as the tuple of their fields
+abbrev pub list_ends_code : Coded ListEnds
+list_ends_code =
+    code_by
+    (Option ℕ × (Option ℕ × ℕ))
+    (coded× (coded_option coded_ℕ) (coded× (coded_option coded_ℕ) coded_ℕ))
+    (λ e. (e.first, (e.last, e.size)))
+    (λ p. record { first = p.0; last = p.1.0; size = p.1.1 })
+    (λ _. refl)
+
 -- the ends of an empty list, of one slot, of a list after a slot leaves, and of two lists joined
-abbrev pub no_ends : Ends
+abbrev pub no_ends : ListEnds
 no_ends = record { first = None; last = None; size = 0 }
 
-abbrev pub one_end : ℕ → Ends
+abbrev pub one_end : ℕ → ListEnds
 one_end k = record { first = Some k; last = Some k; size = 1 }
 
 abbrev pub or_else : Option ℕ → Option ℕ → Option ℕ
@@ -67,16 +83,16 @@ abbrev pub at_end : Option ℕ → Option ℕ → Option ℕ → Option ℕ
 at_end None beyond end = beyond
 at_end (Some k) beyond end = end
 
-abbrev pub ends_without : Option ℕ → Option ℕ → Ends → Ends
+abbrev pub ends_without : Option ℕ → Option ℕ → ListEnds → ListEnds
 ends_without before after e = record {
   first = at_end before after e.first;
   last = at_end after before e.last;
   size = e.size - 1;
 }
 
-abbrev pub ends_joined : Ends → Ends → Ends
+abbrev pub ends_joined : ListEnds → ListEnds → ListEnds
 ends_joined e f = record { first = or_else e.first f.first; last = or_else f.last e.last; size = e.size + f.size }
 
 -- the ends of a list of slots
-abbrev pub ends_of : List ℕ → Ends
+abbrev pub ends_of : List ℕ → ListEnds
 ends_of ks = record { first = first_or ks None; last = last_or None ks; size = length ks }

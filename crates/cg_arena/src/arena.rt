@@ -254,11 +254,12 @@ impl Arena {
         let at = self.slots.vacant_key();
         self.index.note(&self.slots, serial, at);
         let list = number_of(place);
-        let before = self.ends[list].last;
+        let before = self.ends[list].last();
         let mut slot = Slot::new(serial, code, class, body, place, before);
         slot.count = count;
         occupy(&mut self.slots, slot);
-        append(&mut self.slots, &mut self.ends[list], at as u32);
+        let ends = &mut self.ends[list];
+        append(&mut self.slots, ends, at as u32);
         Near { slot: at }
     }
 
@@ -285,7 +286,8 @@ impl Arena {
         self.index.remove(&self.slots, serial, at);
         let seat = (slot.code, slot.body);
         let from = number_of(slot.place);
-        unlink(&mut self.slots, &mut self.ends[from], slot);
+        let left = &mut self.ends[from];
+        unlink(&mut self.slots, left, slot);
         self.slots.remove(at);
         seat
     }
@@ -564,10 +566,13 @@ impl Arena {
     {
         let (at, slot) = self.index.slot_near(&self.slots, serial, near);
         let from = number_of(slot.place);
-        unlink(&mut self.slots, &mut self.ends[from], slot);
+        let left = &mut self.ends[from];
+        unlink(&mut self.slots, left, slot);
         let to = number_of(place);
-        place_last(&mut self.slots, at, place, self.ends[to].last);
-        append(&mut self.slots, &mut self.ends[to], at as u32);
+        let before = self.ends[to].last();
+        place_last(&mut self.slots, at, place, before);
+        let ends = &mut self.ends[to];
+        append(&mut self.slots, ends, at as u32);
     }
 
     /// Moves all nodes of one place to the end of the list of another, in order. (Developer guide,
@@ -581,8 +586,9 @@ impl Arena {
         let leaving = number_of(from);
         let joined = number_of(to);
         let moved = self.ends[leaving];
-        place_all(&mut self.slots, moved.first, moved.size, to);
-        join(&mut self.slots, &mut self.ends[joined], moved);
+        place_all(&mut self.slots, moved.first(), moved.size(), to);
+        let front = &mut self.ends[joined];
+        join(&mut self.slots, front, moved);
         self.ends[leaving] = Ends::none();
     }
 
@@ -591,7 +597,7 @@ impl Arena {
         requires { IsPlace place }
         ensures { result ≡ slice_get (list_at self.now place) 0 }
     {
-        serial_at(&self.slots, self.ends[number_of(place)].first)
+        serial_at(&self.slots, self.ends[number_of(place)].first())
     }
 
     /// `first`, with its slot.
@@ -600,7 +606,7 @@ impl Arena {
         requires { IsPlace place }
         ensures { result ≡ slice_get (list_at self.now place) 0 }
     {
-        let first = self.ends[number_of(place)].first;
+        let first = self.ends[number_of(place)].first();
         *near = Near::at(first);
         serial_at(&self.slots, first)
     }
@@ -634,6 +640,6 @@ impl Arena {
         ensures size { result ≡ length (list_at self.now place) }
         ensures listed { IsListed self.now }
     {
-        self.ends[number_of(place)].size
+        self.ends[number_of(place)].size()
     }
 }

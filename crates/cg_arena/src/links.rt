@@ -1,5 +1,5 @@
 //! Nodes in slots, and the links between them.
-ghost use Rattle.std.specs.Prelude.{◌≡◌, Some, None, option_and_then, option_map, ◌+◌, ◌<◌, ◌^◌};
+ghost use Rattle.std.specs.Prelude.{◌≡◌, Some, None, option_and_then, option_map, ◌+◌, ◌-◌, ◌<◌, ◌^◌};
 ghost use Rattle.slab.specs.Slab.{get, ContainsKey};
 ghost use Rattle.cg_arena.specs.Slots.{with_place, with_count, with_mark, with_number, with_before, with_after, placed_last, after_in, before_of, after_of};
 ghost use Rattle.cg_arena.specs.Links.{rewritten, link_set, tied, ends_without, ends_joined, one_end, place_set, all_placed, chain_from};
@@ -122,11 +122,12 @@ pub fn unlink(slots: &mut Slab<Slot>, ends: &mut Ends, slot: Slot)
 /// Appends a slot to a list. Its links are set already.
 #[inline(always)]
 pub fn append(slots: &mut Slab<Slot>, ends: &mut Ends, at: u32)
-    requires { ends.old.size + 1 < 2 ^ 64 }
+    requires size { ends.old.size + 1 < 2 ^ 64 }
+    requires low { at < 2 ^ 32 - 1 }
     ensures slots { slots.new ≡ link_set with_after ends.old.last (Some at) slots.old }
     ensures ends { ends.new ≡ ends_joined ends.old (one_end at) }
 {
-    set_after(slots, ends.last, Some(at));
+    set_after(slots, ends.last(), Some(at));
     ends.gain(Ends::one(at));
 }
 
@@ -137,7 +138,7 @@ pub fn join(slots: &mut Slab<Slot>, front: &mut Ends, back: Ends)
     ensures slots { slots.new ≡ tied front.old.last back.first slots.old }
     ensures ends { front.new ≡ ends_joined front.old back }
 {
-    tie(slots, front.last, back.first);
+    tie(slots, front.last(), back.first());
     front.gain(back);
 }
 

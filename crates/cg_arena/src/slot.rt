@@ -1,7 +1,7 @@
 //! A node in its slot, between its neighbours in the list of its place.
 //!
 //! The class, the finalized mark and the two links are accessed only through calls.
-ghost use Rattle.std.specs.Prelude.{◌≡◌, None};
+ghost use Rattle.std.specs.Prelude.{◌≡◌, ◌-◌, ◌<◌, ◌^◌, IfSome, None};
 ghost use Rattle.cg_arena.specs.Nodes.{new_node};
 ghost use Rattle.cg_arena.specs.Slots.{link_of, link_to};
 
@@ -12,8 +12,9 @@ pub const NIL: u32 = u32::MAX;
 
 /// The slot that a link names, if any.
 #[inline(always)]
-fn linked(link: u32) -> Option<u32>
-    ensures { result ≡ link_of link }
+pub fn linked(link: u32) -> Option<u32>
+    ensures link { result ≡ link_of link }
+    ensures low { IfSome result (λ k. k < 2 ^ 32 - 1) }
 {
     if link == NIL { None } else { Some(link) }
 }
@@ -137,7 +138,8 @@ impl Slot {
     /// The previous slot in its list.
     #[inline(always)]
     pub fn before(&self) -> Option<u32>
-        ensures { result ≡ before_of self.now }
+        ensures link { result ≡ before_of self.now }
+        ensures low { IfSome result (λ k. k < 2 ^ 32 - 1) }
     {
         linked(self.previous)
     }
@@ -145,7 +147,8 @@ impl Slot {
     /// The next slot in its list.
     #[inline(always)]
     pub fn after(&self) -> Option<u32>
-        ensures { result ≡ after_of self.now }
+        ensures link { result ≡ after_of self.now }
+        ensures low { IfSome result (λ k. k < 2 ^ 32 - 1) }
     {
         linked(self.next)
     }

@@ -1,11 +1,12 @@
-use Rattle.std.proofs.Common.{◌≡◌, ◌≤◌, IfSome, refl, sym, subst}
+use Rattle.std.proofs.Common.{◌≡◌, ◌<◌, ◌≤◌, IfSome, refl, sym, ap, ◌∙◌, subst}
 use Rattle.std.specs.Prelude.{slice_set}
 use Rattle.indexmap.specs.IndexMap.{spare}
 use Rattle.cg_arena.specs.Table.{rows_of, room_of}
 use Rattle.cg_arena.specs.Slots.{before_of, after_of}
 use Rattle.cg_arena.specs.Nodes.{ArenaNode, without_node}
-use Rattle.cg_arena.specs.Links.{tied}
+use Rattle.cg_arena.specs.Links.{ListEnds, ends_without, tied}
 use Rattle.cg_arena.proofs.Sound.{StandsFor, found, slot_placed, node_here}
+use Rattle.cg_arena.proofs.Sizes.{end_read}
 use Rattle.cg_arena.proofs.Drops.{size_there, left_there, dropped}
 use Rattle.cg_arena.proofs.arena.Arena.drop_seat.Goals as goal
 
@@ -18,10 +19,11 @@ number_of-from-requires c = slot_placed c.self.inside.slots c.self.inside.ends (
 
 pub unlink-requires : goal.unlink-requires
 unlink-requires c =
-    size_there c.self.inside.slots (tied (before_of c.slot_of-at.result.1) (after_of c.slot_of-at.result.1) c.self.inside.slots) c.self.inside.ends
+    subst (λ (e : ListEnds). 0 < e.size) (sym (end_read c.self.inside.ends c.self.invariant.sound.ten c.number_of-from.result c.number_of-from.ensures.below _))
+    (size_there c.self.inside.slots (tied (before_of c.slot_of-at.result.1) (after_of c.slot_of-at.result.1) c.self.inside.slots) c.self.inside.ends
     (rows_of c.self.inside.slots) c.self.invariant.sound c.args.serial c.slot_of-at.result.0 c.slot_of-at.result.1 c.slot_of-at.ensures.at
     c.slot_of-at.ensures.slot
-    c.number_of-from.result c.number_of-from.ensures.number c.number_of-from.ensures.below refl
+    c.number_of-from.result c.number_of-from.ensures.number c.number_of-from.ensures.below refl)
 
 pub remove-requires-2 : goal.remove-requires-2
 remove-requires-2 c =
@@ -36,7 +38,8 @@ done c =
     dropped c.self.inside.slots c.unlink.new.slots c.remove-2.new.self c.self.inside.ends c.self.inside.index c.remove.new.self c.self.invariant
     (spare c.self.inside.index.rows) c.args.self.now c.self.view_is
     c.args.serial c.slot_of-at.result.0 c.slot_of-at.result.1 c.slot_of-at.ensures.at c.slot_of-at.ensures.slot
-    c.number_of-from.result c.number_of-from.ensures.number c.number_of-from.ensures.below c.unlink.ensures.slots c.unlink.new.ends c.unlink.ensures.ends
+    c.number_of-from.result c.number_of-from.ensures.number c.number_of-from.ensures.below c.unlink.ensures.slots c.unlink.new.ends
+    (c.unlink.ensures.ends ∙ ap (ends_without (before_of c.slot_of-at.result.1) (after_of c.slot_of-at.result.1)) (end_read c.self.inside.ends c.self.invariant.sound.ten c.number_of-from.result c.number_of-from.ensures.below _))
     c.remove-2.ensures.updates c.remove-2.ensures.len c.remove.ensures.index
     (spare c.remove.new.self.rows) c.remove-2.ensures.capacity c.remove-2.ensures.key_is_next c.remove.ensures.room
 

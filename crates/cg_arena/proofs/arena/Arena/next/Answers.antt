@@ -11,6 +11,6 @@ slot_of-requires c = found c.self.inside.slots c.self.inside.ends c.self.inside.
 pub returns : goal.returns
 returns c =
     c.serial_at.ensures
-    ∙ ap (serial_of_slot c.self.inside.slots) c.after.ensures
+    ∙ ap (serial_of_slot c.self.inside.slots) c.after.ensures.link
     ∙ next_is c.self.inside.slots c.self.inside.ends (rows_of c.self.inside.slots) (spare c.self.inside.index.rows) c.args.self.now c.self.view_is
     c.self.invariant.sound c.args.serial c.slot_of.result.0 c.slot_of.result.1 c.slot_of.ensures.at c.slot_of.ensures.slot

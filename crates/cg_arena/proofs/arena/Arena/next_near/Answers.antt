@@ -11,6 +11,6 @@ slot_near-requires c = found c.self.inside.slots c.self.inside.ends c.self.insid
 pub returns : goal.returns
 returns c =
     c.serial_at.ensures
-    ∙ ap (serial_of_slot c.self.inside.slots) c.after-after.ensures
+    ∙ ap (serial_of_slot c.self.inside.slots) c.after-after.ensures.link
     ∙ next_is c.self.inside.slots c.self.inside.ends (rows_of c.self.inside.slots) (spare c.self.inside.index.rows) c.args.self.now c.self.view_is
     c.self.invariant.sound c.args.serial c.slot_near.result.0 c.slot_near.result.1 c.slot_near.ensures.at c.slot_near.ensures.slot
