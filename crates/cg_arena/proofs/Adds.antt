@@ -1,10 +1,10 @@
 -- The fields after a node is added.
 use Rattle.std.proofs.Common.{◌≡◌, ◌≢◌, ◌⊎◌, ℕ, ◌+◌, ◌-◌, ◌<◌, ◌≤◌, ◌^◌, true, List, [], ◌∷◌, map, Option, Some, None, refl, sym, ap, ◌∙◌, subst, inl, inr, arith}
-use Rattle.std.specs.Prelude.{option_map, is_some, nat_eq, unwrap_or, slice_set, if◌then◌else◌}
-use Rattle.std.proofs.lemmas.Bool.{cases_eq, eq-eqb, ne_eqb}
+use Rattle.std.specs.Prelude.{IfSome, option_map, is_some, nat_eq, unwrap_or, slice_set, if◌then◌else◌}
+use Rattle.std.proofs.lemmas.Bool.{cases_eq, eq-eqb, ne_eqb, true≢false}
 use Rattle.std.proofs.lemmas.List.{length-map, length-set}
 use Rattle.std.specs.FinMap as fin
-use Rattle.slab.specs.Slab.{Slab, get, slab_len, Updates}
+use Rattle.slab.specs.Slab.{Slab, get, slab_len, ContainsKey, Updates}
 use Rattle.cg_value.specs.declared.Place.{Place}
 use Rattle.cg_graph.specs.Maps.{changed}
 use Rattle.cg_graph.specs.Holdings.{occurrences}
@@ -12,15 +12,14 @@ use Rattle.cg_graph.specs.Places.{place_number, list_of, joins_list}
 use Rattle.cg_graph.proofs.Maps.{same_map, get-changed_same, get-changed_other, get-insert_same, get-insert_other}
 use Rattle.cg_arena.specs.declared.slot.Slot.{Slot}
 use Rattle.cg_arena.specs.declared.index.SlotIndex.{SlotIndex}
-use Rattle.cg_arena.specs.Links.{ListEnds}
+use Rattle.cg_arena.specs.Links.{ListEnds, link_set, ends_joined, one_end}
 use Rattle.cg_arena.specs.Nodes.{Nodes, ArenaNode, IsPlace, with_node, counted_up, node_counted_up, count_in_list}
 use Rattle.cg_arena.specs.Slots.{before_in, after_in, serial_in, place_in_slot, node_in, node_of, link_to, with_after, after_of}
-use Rattle.cg_arena.specs.Links.{link_set, ends_joined, one_end}
 use Rattle.cg_arena.specs.Table.{nodes_of, rows_of, serials_of, room_of, IsSpelled, IsNamed, ends_at, row_of, IsSound}
 use Rattle.cg_arena.specs.Index.{LeadsTo, HasRowsBelow, IsKept}
 use Rattle.cg_arena.proofs.Occurrences.{last_of-stands}
 use Rattle.cg_arena.proofs.Chains.{IsTied}
-use Rattle.cg_arena.proofs.TiedSlots.{part-link_set, get-appended}
+use Rattle.cg_arena.proofs.TiedSlots.{named_there, part-link_set, get-appended}
 use Rattle.cg_arena.proofs.ChangedChains.{stands_placed, vacant_loose, loose_spelled, appended_at, joins_spelled}
 use Rattle.cg_arena.proofs.Shapes.{SameShape, shape-link_set}
 use Rattle.cg_arena.proofs.Indexes.{added_index, rows_with, index_with}
@@ -51,6 +50,17 @@ last_there cell ends chain loose spelled q below j is =
     some_numbered q (cell j)
     (stands_placed cell ends chain loose spelled q j below
     (last_of-stands (chain q) j (sym (ap (λ (e : ListEnds). e.last) (spelled.ended q below)) ∙ is)))
+
+-- the last slot of a list is still occupied when a vacant one was taken
+pub last_still_there : (s mid : Slab Slot) (ends : List ListEnds) (rows : List (ℕ × ℕ)) → IsSound s ends rows → (k : ℕ) (c : Slot) → get s k ≡ None → Updates s mid k (Some c)
+    → (q : ℕ) → q < 10 → IfSome (ends_at ends q).last (ContainsKey mid)
+last_still_there s mid ends rows sound k c vacant updates q below =
+    named_there (ends_at ends q).last mid (λ j is.
+    let there = last_there (get s) (ends_at ends) sound.chain None sound.spelled q below j is in
+    elim (cases_eq j k) [
+      | inl same ↦ absurd (true≢false (sym there ∙ ap (λ i. is_some (get s i)) same ∙ ap is_some vacant))
+      | inr differs ↦ ap is_some (updates.others j differs) ∙ there
+    ])
 
 module _ (s mid new : Slab Slot) (ends : List ListEnds) (x y : SlotIndex) (kept : IsKept s x ends) (spare : ℕ) (v : Nodes) (view_is : value_of s ends (rows_of s)
     spare ≡ v) (t k : ℕ) (c : Slot) (n : ArenaNode) (node_is : node_of c ≡ n) (serial_is : c.serial ≡ t) (after_is : after_of c

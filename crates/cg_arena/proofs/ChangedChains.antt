@@ -6,10 +6,9 @@ use Rattle.cg_value.specs.declared.Place.{Place}
 use Rattle.cg_graph.specs.Holdings.{occurrences}
 use Rattle.cg_graph.specs.Places.{place_number, without_serial}
 use Rattle.cg_arena.specs.declared.slot.Slot.{Slot}
-use Rattle.cg_arena.specs.Links.{ListEnds}
+use Rattle.cg_arena.specs.Links.{ListEnds, IsLinked, first_or, last_or, ends_of, ends_without, ends_joined, one_end}
 use Rattle.cg_arena.specs.Nodes.{count_in_list}
 use Rattle.cg_arena.specs.Slots.{before_in, after_in, place_in_slot}
-use Rattle.cg_arena.specs.Links.{IsLinked, first_or, last_or, ends_of, ends_without, ends_joined, one_end}
 use Rattle.cg_arena.specs.Table.{stands_at, IsSpelled}
 use Rattle.cg_arena.proofs.Occurrences.{last_of-stands, first-stands, one, one-same, one-apart, occurrences-cons, occurrences-append, occurrences-single, IsBetween, stands_between, without-absent, without-between, occurrences-without_same, occurrences-without_other}
 use Rattle.cg_arena.proofs.Chains.{HasLinks, linked_still, linked_front, linked_back, IsTied, tied_chain, tied_elsewhere}

@@ -1,23 +1,22 @@
 -- The fields after a node is dropped.
 use Rattle.std.proofs.Common.{◌≡◌, ◌≢◌, ℕ, ◌+◌, ◌-◌, ◌<◌, ◌≤◌, true, List, map, Some, None, sym, ap, ◌∙◌, subst, inl, inr, arith}
-use Rattle.std.specs.Prelude.{is_some, nat_eq, slice_set, ◌==◌, if◌then◌else◌}
+use Rattle.std.specs.Prelude.{IfSome, is_some, nat_eq, slice_set, ◌==◌, if◌then◌else◌}
 use Rattle.std.proofs.lemmas.Bool.{cases_eq, eq-eqb, ne_eqb}
 use Rattle.std.proofs.lemmas.List.{length-map, length-set}
 use Rattle.std.specs.FinMap as fin
-use Rattle.slab.specs.Slab.{Slab, get, slab_len, Updates}
+use Rattle.slab.specs.Slab.{Slab, get, slab_len, ContainsKey, Updates}
 use Rattle.cg_graph.specs.Holdings.{occurrences}
 use Rattle.cg_graph.specs.Places.{place_number, list_of, without_serial, leaves_list}
 use Rattle.cg_arena.specs.declared.slot.Slot.{Slot}
 use Rattle.cg_arena.specs.declared.index.SlotIndex.{SlotIndex}
-use Rattle.cg_arena.specs.Links.{ListEnds}
+use Rattle.cg_arena.specs.Links.{ListEnds, tied, ends_without}
 use Rattle.cg_arena.specs.Nodes.{Nodes, without_node, place_in, place_of, count_in_list}
 use Rattle.cg_arena.specs.Slots.{before_in, after_in, serial_in, place_in_slot, node_in, before_of, after_of}
-use Rattle.cg_arena.specs.Links.{tied, ends_without}
 use Rattle.cg_arena.specs.Table.{nodes_of, rows_of, serials_of, room_of, IsSpelled, IsNamed, ends_at, row_of, IsSound}
 use Rattle.cg_arena.specs.Index.{IsIndex, IsKept}
 use Rattle.cg_arena.proofs.Occurrences.{occurrences-without_same}
 use Rattle.cg_arena.proofs.Chains.{IsTied}
-use Rattle.cg_arena.proofs.TiedSlots.{get-tied}
+use Rattle.cg_arena.proofs.TiedSlots.{named_there, get-tied}
 use Rattle.cg_arena.proofs.ChangedChains.{count_in_list-same, count_in_list-other, stands_placed, before_stands, after_stands, leaves_spelled, loose_spelled, loose_vacant}
 use Rattle.cg_arena.proofs.Shapes.{SameShape, shape-tied, nodes-tied, places-tied, there-tied}
 use Rattle.cg_arena.proofs.Indexes.{rows_without, index_without}
@@ -37,7 +36,7 @@ module _ (s new : Slab Slot) (ends : List ListEnds) (rows : List (ℕ × ℕ)) (
   pub absent : (r : ℕ) → r < 10 → r ≢ p → occurrences k (sound.chain r) ≡ 0
   absent r r_below differs = sound.spelled.standing r k r_below ∙ ap (λ o. count_in_list r (place_in_slot o)) slot_is ∙ count_in_list-other r c.place (λ e. differs (sym e ∙ sym p_is))
 
-  pub size_there : 0 < (ends_at ends p).size
+  size_there : 0 < (ends_at ends p).size
   size_there = size_above (get s) (ends_at ends) sound.chain None sound.spelled p k below (omega (arith, stood))
 
   neighbour : (j : ℕ) → 0 < occurrences j (sound.chain p) → is_some (get s j) ≡ true
@@ -49,12 +48,20 @@ module _ (s new : Slab Slot) (ends : List ListEnds) (rows : List (ℕ × ℕ)) (
   after_is : after_in (get s k) ≡ after_of c
   after_is = ap after_in slot_is
 
+  before_there : (j : ℕ) → before_of c ≡ Some j → is_some (get s j) ≡ true
+  before_there j is = neighbour j (before_stands (get s) (ends_at ends) sound.chain None sound.spelled k p below (omega (arith, stood)) j (before_is ∙ is))
+
+  after_there : (j : ℕ) → after_of c ≡ Some j → is_some (get s j) ≡ true
+  after_there j is = neighbour j (after_stands (get s) (ends_at ends) sound.chain None sound.spelled k p below (omega (arith, stood)) j (after_is ∙ is))
+
+  -- the list has a slot, and the neighbours in it are occupied
+  pub neighbours_there : (0 < (ends_at ends p).size) × (IfSome (before_of c) (ContainsKey s) × IfSome (after_of c) (ContainsKey s))
+  neighbours_there = (size_there, (named_there (before_of c) s before_there, named_there (after_of c) s after_there))
+
   leaving_tie : IsTied (get s) (get new) (before_of c) (after_of c)
   leaving_tie =
       subst (λ z. IsTied (get s) (get z) (before_of c) (after_of c)) (sym tied_is)
-      (get-tied (before_of c) (after_of c) s sound.placed
-      (λ j is. neighbour j (before_stands (get s) (ends_at ends) sound.chain None sound.spelled k p below (omega (arith, stood)) j (before_is ∙ is)))
-      (λ j is. neighbour j (after_stands (get s) (ends_at ends) sound.chain None sound.spelled k p below (omega (arith, stood)) j (after_is ∙ is))))
+      (get-tied (before_of c) (after_of c) s sound.placed before_there after_there)
 
   pub left_shape : SameShape s new
   left_shape = subst (SameShape s) (sym tied_is) (shape-tied (before_of c) (after_of c) s)

@@ -7,10 +7,9 @@ use Rattle.slab.specs.Slab.{Slab, get}
 use Rattle.cg_graph.specs.Holdings.{occurrences}
 use Rattle.cg_graph.specs.Places.{list_of, without_serial, leaves_list, joins_list, merge_lists}
 use Rattle.cg_arena.specs.declared.slot.Slot.{Slot}
-use Rattle.cg_arena.specs.Links.{ListEnds}
+use Rattle.cg_arena.specs.Links.{ListEnds, chain_from, no_ends}
 use Rattle.cg_arena.specs.Nodes.{following, count_in_list}
 use Rattle.cg_arena.specs.Slots.{serial_in, place_in_slot}
-use Rattle.cg_arena.specs.Links.{chain_from, no_ends}
 use Rattle.cg_arena.specs.Table.{serials_of, IsSpelled, IsNamed, ends_at}
 use Rattle.cg_arena.proofs.Occurrences.{one-same, one-apart, occurrences-cons, without-absent}
 use Rattle.cg_arena.proofs.Chains.{chain-read}

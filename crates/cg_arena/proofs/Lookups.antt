@@ -10,10 +10,9 @@ use Rattle.cg_graph.specs.Places.{place_number, list_of}
 use Rattle.cg_graph.proofs.Maps.{same_map}
 use Rattle.cg_arena.specs.declared.slot.Slot.{Slot}
 use Rattle.cg_arena.specs.declared.index.SlotIndex.{SlotIndex}
-use Rattle.cg_arena.specs.Links.{ListEnds}
+use Rattle.cg_arena.specs.Links.{ListEnds, first_or, no_ends, IsLinked}
 use Rattle.cg_arena.specs.Nodes.{Nodes, ArenaNode, IsPlace, IsListed, following, place_in, place_of, no_nodes, count_in_list}
 use Rattle.cg_arena.specs.Slots.{after_in, serial_in, place_in_slot, node_in, node_of, after_of}
-use Rattle.cg_arena.specs.Links.{first_or, no_ends, IsLinked}
 use Rattle.cg_arena.specs.Table.{nodes_of, rows_of, serials_of, room_of, IsSpelled, ends_at, row_of, IsSound}
 use Rattle.cg_arena.specs.Index.{IsKept}
 use Rattle.cg_arena.proofs.Occurrences.{one-same, occurrences-cons, occurrences-append, IsBetween, stands_between}

@@ -6,10 +6,9 @@ use Rattle.cg_value.specs.declared.Place.{Place}
 use Rattle.cg_graph.specs.Holdings.{occurrences}
 use Rattle.cg_graph.specs.Places.{place_number}
 use Rattle.cg_arena.specs.declared.slot.Slot.{Slot}
-use Rattle.cg_arena.specs.Links.{ListEnds}
+use Rattle.cg_arena.specs.Links.{ListEnds, IsLinked, first_or, last_or, ends_of, ends_joined, no_ends}
 use Rattle.cg_arena.specs.Nodes.{count_in_list}
 use Rattle.cg_arena.specs.Slots.{place_in_slot}
-use Rattle.cg_arena.specs.Links.{IsLinked, first_or, last_or, ends_of, ends_joined, no_ends}
 use Rattle.cg_arena.specs.Table.{IsSpelled}
 use Rattle.cg_arena.proofs.Occurrences.{occurrences-append}
 use Rattle.cg_arena.proofs.Chains.{HasLinks, linked_still, IsTied, tied_chain, tied_elsewhere}

@@ -1,24 +1,23 @@
 -- The fields after one list is appended to another.
 use Rattle.std.proofs.Common.{◌≡◌, ◌≢◌, ℕ, ◌+◌, ◌-◌, ◌<◌, ◌^◌, true, List, [], map, length, Some, None, refl, sym, ap, ◌∙◌, subst, inl, inr, arith}
-use Rattle.std.specs.Prelude.{option_map, is_some, slice_set, if◌then◌else◌}
+use Rattle.std.specs.Prelude.{IfSome, option_map, is_some, slice_set, if◌then◌else◌}
 use Rattle.std.proofs.lemmas.Bool.{cases_eq, eq-eqb, ne_eqb}
 use Rattle.std.proofs.lemmas.List.{length-map, length-set}
-use Rattle.slab.specs.Slab.{Slab, get}
+use Rattle.slab.specs.Slab.{Slab, get, ContainsKey}
 use Rattle.cg_value.specs.declared.Place.{Place}
 use Rattle.cg_graph.specs.Maps.{mapped}
 use Rattle.cg_graph.specs.Holdings.{occurrences}
 use Rattle.cg_graph.specs.Places.{place_number, list_of, merge_lists}
 use Rattle.cg_arena.specs.declared.slot.Slot.{Slot}
 use Rattle.cg_arena.specs.declared.index.SlotIndex.{SlotIndex}
-use Rattle.cg_arena.specs.Links.{ListEnds}
+use Rattle.cg_arena.specs.Links.{ListEnds, tied, all_placed, chain_from, ends_joined, no_ends}
 use Rattle.cg_arena.specs.Nodes.{Nodes, IsPlace, with_lists_merged, place_merged, node_placed, count_in_list}
 use Rattle.cg_arena.specs.Slots.{before_in, after_in, serial_in, place_in_slot, node_in, node_of, with_place}
-use Rattle.cg_arena.specs.Links.{tied, all_placed, chain_from, ends_joined, no_ends}
 use Rattle.cg_arena.specs.Table.{nodes_of, rows_of, serials_of, IsSpelled, ends_at, row_of, IsSound}
 use Rattle.cg_arena.specs.Index.{IsKept}
 use Rattle.cg_arena.proofs.Occurrences.{first-stands}
 use Rattle.cg_arena.proofs.Chains.{HasLinks, IsTied, chain-read}
-use Rattle.cg_arena.proofs.TiedSlots.{get-tied}
+use Rattle.cg_arena.proofs.TiedSlots.{named_there, get-tied}
 use Rattle.cg_arena.proofs.ChangedChains.{count_in_list-same, count_in_list-other, stands_placed}
 use Rattle.cg_arena.proofs.Merged.{merged_chain, merged_spelled}
 use Rattle.cg_arena.proofs.Shapes.{SameShape, shape-trans, shape-tied, shape-all_placed, nodes-tied, places-tied, part-all_placed, place_written, get-all_placed_aside, get-all_placed_among}
@@ -85,12 +84,20 @@ module _ (s placed new : Slab Slot) (ends : List ListEnds) (x : SlotIndex) (kept
         (subst (λ m. m < 10) (q_is ∙ ap place_number here) below_q, (sound.placed j was.0.place (ap place_in_slot was.1)).1)
   ]
 
+  joined_there : (j : ℕ) → (ends_at ends q).last ≡ Some j → is_some (get placed j) ≡ true
+  joined_there j is = still_there j ∙ last_there (get s) (ends_at ends) sound.chain None sound.spelled q below_q j is
+
+  moved_there : (j : ℕ) → (ends_at ends p).first ≡ Some j → is_some (get placed j) ≡ true
+  moved_there j is = still_there j ∙ occupied p j below_p (first_stands j is)
+
+  -- the slots where the lists meet are occupied
+  pub seam_there : IfSome (ends_at ends q).last (ContainsKey placed) × IfSome (ends_at ends p).first (ContainsKey placed)
+  seam_there = (named_there (ends_at ends q).last placed joined_there, named_there (ends_at ends p).first placed moved_there)
+
   tie : IsTied (get placed) (get new) (ends_at ends q).last (ends_at ends p).first
   tie =
       subst (λ z. IsTied (get placed) (get z) (ends_at ends q).last (ends_at ends p).first) (sym tied_is)
-      (get-tied (ends_at ends q).last (ends_at ends p).first placed all_in_place
-      (λ j is. still_there j ∙ last_there (get s) (ends_at ends) sound.chain None sound.spelled q below_q j is)
-      (λ j is. still_there j ∙ occupied p j below_p (first_stands j is)))
+      (get-tied (ends_at ends q).last (ends_at ends p).first placed all_in_place joined_there moved_there)
 
   shape : SameShape s new
   shape =

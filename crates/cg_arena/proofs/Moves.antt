@@ -1,23 +1,22 @@
 -- The fields after a node is moved.
-use Rattle.std.proofs.Common.{◌≡◌, ◌≢◌, ℕ, ◌+◌, ◌-◌, ◌<◌, ◌^◌, List, [], ◌∷◌, map, length, Some, None, refl, sym, ap, ◌∙◌, subst, inl, inr, arith}
-use Rattle.std.specs.Prelude.{option_map, unwrap_or, slice_set}
+use Rattle.std.proofs.Common.{◌≡◌, ◌≢◌, ℕ, ◌+◌, ◌-◌, ◌<◌, ◌^◌, true, List, [], ◌∷◌, map, length, Some, None, refl, sym, ap, ◌∙◌, subst, inl, inr, arith}
+use Rattle.std.specs.Prelude.{IfSome, is_some, option_map, unwrap_or, slice_set}
 use Rattle.std.proofs.lemmas.Bool.{cases_eq}
 use Rattle.std.proofs.lemmas.List.{length-map, length-set}
-use Rattle.slab.specs.Slab.{Slab, get}
+use Rattle.slab.specs.Slab.{Slab, get, ContainsKey}
 use Rattle.cg_value.specs.declared.Place.{Place}
 use Rattle.cg_graph.specs.Maps.{changed}
 use Rattle.cg_graph.specs.Places.{place_number, list_of, without_serial, leaves_list, move_between}
 use Rattle.cg_arena.specs.declared.slot.Slot.{Slot}
 use Rattle.cg_arena.specs.declared.index.SlotIndex.{SlotIndex}
-use Rattle.cg_arena.specs.Links.{ListEnds}
+use Rattle.cg_arena.specs.Links.{ListEnds, rewritten, tied, link_set, ends_without, ends_joined, one_end}
 use Rattle.cg_arena.specs.Nodes.{Nodes, IsPlace, with_node_moved, node_placed, place_in, place_of}
 use Rattle.cg_arena.specs.Slots.{before_in, after_in, serial_in, place_in_slot, node_in, placed_last, with_after, before_of, after_of}
-use Rattle.cg_arena.specs.Links.{rewritten, tied, link_set, ends_without, ends_joined, one_end}
 use Rattle.cg_arena.specs.Table.{nodes_of, rows_of, serials_of, IsSpelled, ends_at, row_of, IsSound}
 use Rattle.cg_arena.specs.Index.{IsKept}
 use Rattle.cg_arena.proofs.Chains.{IsTied}
 use Rattle.cg_arena.proofs.Writes.{get-rewritten_same, get-rewritten_other}
-use Rattle.cg_arena.proofs.TiedSlots.{part-link_set, get-appended}
+use Rattle.cg_arena.proofs.TiedSlots.{named_there, part-link_set, get-appended}
 use Rattle.cg_arena.proofs.ChangedChains.{loose_spelled, appended_at, joins_spelled}
 use Rattle.cg_arena.proofs.Shapes.{SameShape, shape-trans, shape-rewritten, shape-link_set}
 use Rattle.cg_arena.proofs.Rows.{nodes-changed}
@@ -86,15 +85,21 @@ module _ (s left placed new : Slab Slot) (ends : List ListEnds) (x : SlotIndex) 
   between_sizes : sizes (slice_set ends p d) + 1 ≡ sizes ends
   between_sizes = left_sizes s left ends rows sound t k c row_is slot_is p p_is below_p left_is d d_is
 
-  pub room_for_one : (ends_at between_ends q).size + 1 < 2 ^ 64
-  room_for_one = omega (arith, size_within between_ends between_ten q below_q, between_sizes, sound.counted, sound.few)
+  last_is_there : (j : ℕ) → (ends_at between_ends q).last ≡ Some j → is_some (get placed j) ≡ true
+  last_is_there = last_there (get placed) (ends_at between_ends) between_chain (Some k) loose q below_q
+
+  -- the list has room for the node, and its last slot is occupied
+  pub room_for_one : ((ends_at between_ends q).size + 1 < 2 ^ 64) × IfSome (ends_at between_ends q).last (ContainsKey placed)
+  room_for_one = (
+    omega (arith, size_within between_ends between_ten q below_q, between_sizes, sound.counted, sound.few),
+    named_there (ends_at between_ends q).last placed last_is_there,
+  )
 
   module _ (linked_is : new ≡ link_set with_after (ends_at between_ends q).last (Some k) placed) (e : ListEnds) (ends_are : e ≡ ends_joined (ends_at between_ends q) (one_end k)) where
     tie : IsTied (get placed) (get new) (ends_at between_ends q).last (Some k)
     tie =
         subst (λ z. IsTied (get placed) (get z) (ends_at between_ends q).last (Some k)) (sym linked_is)
-        (get-appended (ends_at between_ends q).last k placed all_in_place
-        (last_there (get placed) (ends_at between_ends) between_chain (Some k) loose q below_q) (written was.0) here refl)
+        (get-appended (ends_at between_ends q).last k placed all_in_place last_is_there (written was.0) here refl)
 
     shape : SameShape s new
     shape = shape-trans s placed new shape_placed (subst (SameShape placed) (sym linked_is) (shape-link_set with_after (λ o x. refl) (ends_at between_ends q).last (Some k) placed))

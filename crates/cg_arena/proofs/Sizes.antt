@@ -5,8 +5,7 @@ use Rattle.std.proofs.lemmas.List.{get_or-set_same, get_or-set_other, get_or_def
 use Rattle.std.proofs.lemmas.List.Sums.{sum_by-set, get_or-le-sum_by, count_by-le-length}
 use Rattle.cg_graph.specs.Holdings.{occurrences}
 use Rattle.cg_arena.specs.declared.slot.Slot.{Slot}
-use Rattle.cg_arena.specs.Links.{ListEnds}
-use Rattle.cg_arena.specs.Links.{no_ends}
+use Rattle.cg_arena.specs.Links.{ListEnds, no_ends}
 use Rattle.cg_arena.specs.Table.{IsSpelled, ends_at}
 
 abbrev pub sizes : List ListEnds → ℕ

@@ -13,10 +13,9 @@ use Rattle.cg_arena.specs.declared.slot.Slot.{Slot}
 use Rattle.cg_arena.specs.declared.slot.Marks.{Marks}
 use Rattle.cg_arena.specs.declared.slot.Marks.TheVariants.{Neither, Classed, Finalized, Both}
 use Rattle.cg_arena.specs.declared.index.SlotIndex.{SlotIndex}
-use Rattle.cg_arena.specs.Links.{ListEnds}
+use Rattle.cg_arena.specs.Links.{ListEnds, rewritten}
 use Rattle.cg_arena.specs.Nodes.{Nodes, ArenaNode, HasNode, IsPlace, count_in, count_of, with_node_changed, node_finalized, node_counted_up, node_counted_down, counted_up, counted_down, count_in_list}
 use Rattle.cg_arena.specs.Slots.{before_in, after_in, serial_in, place_in_slot, node_in, node_of, before_of, after_of, with_count, with_mark}
-use Rattle.cg_arena.specs.Links.{rewritten}
 use Rattle.cg_arena.specs.Table.{nodes_of, rows_of, serials_of, room_of, IsSpelled, IsNamed, ends_at, row_of, IsSound}
 use Rattle.cg_arena.specs.Index.{guess_at, IsIndexOf, Finds, HasRow, IsKept}
 use Rattle.cg_arena.proofs.Occurrences.{one-same, one-apart, occurrences-single}

@@ -1,8 +1,8 @@
 -- Two tied slots: their new links, and what else of each slot is kept.
 use Rattle.std.proofs.Common.{◌≡◌, ◌≢◌, ℕ, ◌-◌, ◌^◌, ◌<◌, true, Option, Some, None, refl, sym, ap, ◌∙◌, subst, arith}
-use Rattle.std.specs.Prelude.{option_map, is_some, if◌then◌else◌}
+use Rattle.std.specs.Prelude.{IfSome, option_map, is_some, if◌then◌else◌}
 use Rattle.std.proofs.lemmas.Bool.{ne_eqb}
-use Rattle.slab.specs.Slab.{Slab, get}
+use Rattle.slab.specs.Slab.{Slab, get, ContainsKey}
 use Rattle.cg_value.specs.declared.Place.{Place}
 use Rattle.cg_arena.specs.declared.slot.Slot.{Slot}
 use Rattle.cg_arena.specs.Nodes.{IsPlace}
@@ -40,6 +40,15 @@ module _ (write : Option ℕ → Slot → Slot) where
       → part (get (link_set write at to s) j) ≡ part (get s j)
   part-link_set part keeps None to s j = refl
   part-link_set part keeps (Some k) to s j = part-rewritten part (write to) (keeps to) k s j
+
+-- the slot that an option names is occupied
+pub named_there : (at : Option ℕ) (s : Slab Slot) → ((j : ℕ) → at ≡ Some j → is_some (get s j) ≡ true) → IfSome at (ContainsKey s)
+named_there None s there = tt
+named_there (Some k) s there = there k refl
+
+pub there-link_set : (write : Option ℕ → Slot → Slot) (at to : Option ℕ) (s : Slab Slot) (o : Option ℕ) → IfSome o (ContainsKey s) → IfSome o (ContainsKey (link_set write at to s))
+there-link_set write at to s None there = tt
+there-link_set write at to s (Some j) there = part-link_set write is_some (λ o x. refl) at to s j ∙ there
 
 -- a part of a slot independent of both links
 pub part-tied : {X : Type 0} (part : Option Slot → X) → ((o : Option ℕ) (x : Slot) → part (Some (with_after o x)) ≡ part (Some x)) → ((o : Option ℕ) (x : Slot)

@@ -6,11 +6,10 @@ use Rattle.std.specs.Map.{lookup}
 use Rattle.slab.specs.Slab.{Slab, get, slab_len, entries}
 use Rattle.cg_graph.specs.Holdings.{occurrences}
 use Rattle.cg_arena.specs.declared.slot.Slot.{Slot}
-use Rattle.cg_arena.specs.Links.{ListEnds}
+use Rattle.cg_arena.specs.Links.{ListEnds, chain_from, IsLinked, ends_of, no_ends}
 use Rattle.cg_value.specs.declared.Place.{Place}
 use Rattle.cg_arena.specs.Nodes.{ArenaNode, IsPlace, count_in_list}
 use Rattle.cg_arena.specs.Slots.{serial_in, place_in_slot, node_in}
-use Rattle.cg_arena.specs.Links.{chain_from, IsLinked, ends_of, no_ends}
 
 -- the row of each occupied slot: its serial and the slot
 unfoldable pub rows_of : Slab Slot → List (ℕ × ℕ)

@@ -1,15 +1,23 @@
-use Rattle.std.proofs.Common.{◌≡◌, ◌+◌, ◌≤◌, Some, ap, ◌∙◌}
-use Rattle.std.specs.Prelude.{slice_set}
+use Rattle.std.proofs.Common.{◌≡◌, ◌+◌, ◌≤◌, Some, ap, sym, ◌∙◌, subst}
+use Rattle.std.specs.Prelude.{IfSome, slice_set}
+use Rattle.slab.specs.Slab.{get, ContainsKey}
 use Rattle.indexmap.specs.IndexMap.{spare}
 use Rattle.cg_arena.specs.Nodes.{ArenaNode, new_node, with_node}
 use Rattle.cg_arena.specs.Slots.{link_to, with_after}
 use Rattle.cg_arena.specs.Links.{ListEnds, link_set, ends_joined, one_end}
-use Rattle.cg_arena.specs.Table.{ends_at, room_of}
+use Rattle.cg_arena.specs.Table.{ends_at, rows_of, room_of}
 use Rattle.cg_arena.proofs.Sound.{StandsFor}
 use Rattle.cg_arena.proofs.Sizes.{end_read}
-use Rattle.cg_arena.proofs.Adds.{added}
+use Rattle.cg_arena.proofs.Adds.{last_still_there, added}
 use Rattle.cg_arena.proofs.arena.Arena.add_counted.Goals as goal
 use Rattle.cg_arena.proofs.arena.Arena.add_counted.Goals.{After-append}
+
+pub append-requires-clause-last : goal.append-requires-clause-last
+append-requires-clause-last c =
+    subst (λ (e : ListEnds). IfSome e.last (ContainsKey c.occupy.new.slots))
+    (sym (end_read c.self.inside.ends c.self.invariant.sound.ten c.number_of-list.result c.number_of-list.ensures.below _))
+    (last_still_there c.self.inside.slots c.occupy.new.slots c.self.inside.ends (rows_of c.self.inside.slots) c.self.invariant.sound c.self.inside.slots.vacant_key _
+    (ap (get c.self.inside.slots) (sym c.vacant_key-at.ensures.value) ∙ c.vacant_key-at.ensures.vacant) c.occupy.ensures.updates c.number_of-list.result c.number_of-list.ensures.below)
 
 last_is : (c : After-append) → c.last-before.result ≡ (ends_at c.self.inside.ends c.number_of-list.result).last
 last_is c = c.last-before.ensures ∙ ap (λ (e : ListEnds). e.last) (end_read c.self.inside.ends c.self.invariant.sound.ten c.number_of-list.result c.number_of-list.ensures.below _)
@@ -25,7 +33,7 @@ done c =
     (ap (λ (m : ArenaNode). record m { count = c.args.count }) c.new-slot.ensures.node) c.new-slot.ensures.serial c.new-slot.ensures.after c.requires.fresh
     c.vacant_key-at.ensures.value c.requires.room c.vacant_key-at.ensures.vacant c.occupy.ensures.updates c.occupy.ensures.len c.occupy.ensures.few c.note.ensures.below
     c.note.ensures.noted c.note.ensures.others c.note.ensures.rows
-    c.number_of-list.result c.number_of-list.ensures.number c.number_of-list.ensures.below 
+    c.number_of-list.result c.number_of-list.ensures.number c.number_of-list.ensures.below
     (c.new-slot.ensures.before ∙ ap link_to (last_is c))
     (c.append.ensures.slots ∙ ap (λ (e : ListEnds). link_set with_after e.last (Some c.vacant_key-at.result) c.occupy.new.slots) (end_read c.self.inside.ends c.self.invariant.sound.ten c.number_of-list.result c.number_of-list.ensures.below _))
     c.append.new.ends (c.append.ensures.ends ∙ ap (λ e. ends_joined e (one_end c.vacant_key-at.result)) (end_read c.self.inside.ends c.self.invariant.sound.ten c.number_of-list.result c.number_of-list.ensures.below _))

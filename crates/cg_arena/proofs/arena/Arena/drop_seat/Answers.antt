@@ -7,7 +7,7 @@ use Rattle.cg_arena.specs.Nodes.{ArenaNode, without_node}
 use Rattle.cg_arena.specs.Links.{ListEnds, ends_without, tied}
 use Rattle.cg_arena.proofs.Sound.{StandsFor, found, slot_placed, node_here}
 use Rattle.cg_arena.proofs.Sizes.{end_read}
-use Rattle.cg_arena.proofs.Drops.{size_there, left_there, dropped}
+use Rattle.cg_arena.proofs.Drops.{neighbours_there, left_there, dropped}
 use Rattle.cg_arena.proofs.arena.Arena.drop_seat.Goals as goal
 
 pub slot_of-at-requires : goal.slot_of-at-requires
@@ -19,11 +19,15 @@ number_of-from-requires c = slot_placed c.self.inside.slots c.self.inside.ends (
 
 pub unlink-requires : goal.unlink-requires
 unlink-requires c =
-    subst (λ (e : ListEnds). 0 < e.size) (sym (end_read c.self.inside.ends c.self.invariant.sound.ten c.number_of-from.result c.number_of-from.ensures.below _))
-    (size_there c.self.inside.slots (tied (before_of c.slot_of-at.result.1) (after_of c.slot_of-at.result.1) c.self.inside.slots) c.self.inside.ends
-    (rows_of c.self.inside.slots) c.self.invariant.sound c.args.serial c.slot_of-at.result.0 c.slot_of-at.result.1 c.slot_of-at.ensures.at
-    c.slot_of-at.ensures.slot
-    c.number_of-from.result c.number_of-from.ensures.number c.number_of-from.ensures.below refl)
+    let there = neighbours_there c.self.inside.slots (tied (before_of c.slot_of-at.result.1) (after_of c.slot_of-at.result.1) c.self.inside.slots)
+    c.self.inside.ends (rows_of c.self.inside.slots) c.self.invariant.sound c.args.serial c.slot_of-at.result.0 c.slot_of-at.result.1 c.slot_of-at.ensures.at
+    c.slot_of-at.ensures.slot c.number_of-from.result c.number_of-from.ensures.number c.number_of-from.ensures.below refl in
+    record {
+      size = subst (λ (e : ListEnds). 0 < e.size)
+          (sym (end_read c.self.inside.ends c.self.invariant.sound.ten c.number_of-from.result c.number_of-from.ensures.below _)) there.0;
+      before = there.1.0;
+      after = there.1.1;
+    }
 
 pub remove-requires-2 : goal.remove-requires-2
 remove-requires-2 c =
