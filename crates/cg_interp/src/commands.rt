@@ -141,13 +141,9 @@ impl<B: Kind> Engine<B> {
         ensures keeps { TurnKeeps self.old self.new }
     {
         let mut release = Release::new(given_up);
-        match give_up(&mut self.heap, &mut release) {
-            Some(object) => {
-                self.die_above(caller, release, object);
-                Some(told(line))
-            }
-            None => None,
-        }
+        let object = give_up(&mut self.heap, &mut release)?;
+        self.die_above(caller, release, object);
+        Some(told(line))
     }
 
     /// Begins the death of an object that a release above the caller answers. Puts both back.
